@@ -1,0 +1,141 @@
+//! A window over shared bits.
+ghost use Rattle.std.specs.Prelude.{◌≡◌, ◌+◌, ◌<◌, ◌≤◌, length as count, get_or, cond, false, replicate, IfOk};
+ghost use Rattle.std.specs.List.{count_by};
+ghost use Rattle.arrow_buffers.specs.Bits.{Bits, plain, cut_bits, count_unset, both, same};
+
+use crate::bits::{bit_at, count_set};
+use crate::{BitmapIter, Buffer, Mem, MutableBitmap};
+use std::alloc::Global;
+use std::marker::Model;
+
+/// Bits that may be shared, seen as the list of those in its window and the count of bits before them in their byte.
+#[derive(Drop)]
+pub struct Bitmap {
+    pub(crate) bytes: Buffer<u8>,
+    pub(crate) start: usize,
+    pub(crate) slots: usize,
+}
+
+impl Model for Bitmap {
+    ghost use Rattle.std.specs.Prelude.{◌+◌, ◌*◌, ◌^◌, ◌<◌, ◌≤◌, length};
+    ghost use Rattle.arrow_buffers.specs.Bits.{Bits, bits_code, bits_of, lead_of};
+
+    ghost Value = { Bits };
+
+    ghost coded = { bits_code };
+
+    ghost view = { λ b. record { bits = bits_of b.bytes b.start b.slots; lead = lead_of b.start b.slots } };
+
+    ghost invariant = { λ b. (b.start + b.slots ≤ 8 * length b.bytes) × (b.start + b.slots < 2 ^ 64) };
+}
+
+impl Bitmap {
+    pub fn from_bools(alloc: Global, bits: &[bool]) -> Mem<Bitmap>
+        ensures { IfOk result (λ b. b ≡ plain bits.now) }
+    {
+        let mut built = MutableBitmap::new(alloc);
+        for bit in bits {
+            built.push(*bit)?;
+        }
+        built.freeze()
+    }
+
+    pub fn new_with_value(alloc: Global, value: bool, length: usize) -> Mem<Bitmap>
+        ensures { IfOk result (λ b. b ≡ plain (replicate length value)) }
+    {
+        let bytes = filled(alloc, byte_of(value), length.div_ceil(8))?;
+        Ok(Bitmap {
+            bytes: Buffer::from_vec(alloc, bytes)?,
+            start: 0,
+            slots: length,
+        })
+    }
+
+    pub fn len(&self) -> usize
+        ensures value { result ≡ count self.now.bits }
+        ensures led { self.now.lead < 8 }
+    {
+        self.slots
+    }
+
+    pub fn lead(&self) -> usize
+        ensures { result ≡ self.now.lead }
+    {
+        if self.slots == 0 { 0 } else { self.start % 8 }
+    }
+
+    pub fn get_bit(&self, i: usize) -> bool
+        requires { i < count self.now.bits }
+        ensures { result ≡ get_or self.now.bits i false }
+    {
+        bit_at(self.bytes.as_slice(), self.start + i)
+    }
+
+    /// The count of bits that are set, whole bytes at a time.
+    pub fn set_bits(&self) -> usize
+        ensures value { result ≡ count_by same self.now.bits }
+        ensures fits { result ≤ count self.now.bits }
+    {
+        count_set(self.bytes.as_slice(), self.start, self.start + self.slots)
+    }
+
+    pub fn unset_bits(&self) -> usize
+        ensures { result ≡ count_unset self.now.bits }
+    {
+        self.slots - self.set_bits()
+    }
+
+    pub fn iter(&self) -> BitmapIter<'_>
+        ensures { result ≡ self.now.bits }
+    {
+        BitmapIter {
+            bytes: self.bytes.as_slice(),
+            front: self.start,
+            back: self.start + self.slots,
+        }
+    }
+
+    pub fn and(&self, alloc: Global, other: &Bitmap) -> Mem<Bitmap>
+        requires { count self.now.bits ≡ count other.now.bits }
+        ensures { IfOk result (λ b. b ≡ plain (both self.now.bits other.now.bits)) }
+    {
+        let mut built = MutableBitmap::new(alloc);
+        for i in 0..self.len() {
+            built.push(self.get_bit(i) & other.get_bit(i))?;
+        }
+        built.freeze()
+    }
+
+    /// Keeps the window of `length` bits from `offset` on.
+    pub fn slice(&mut self, offset: usize, length: usize)
+        requires { offset + length ≤ count self.old.bits }
+        ensures { self.new ≡ cut_bits self.old offset length }
+    {
+        self.start += offset;
+        self.slots = length;
+    }
+
+    /// Another owner of the same bits.
+    pub fn try_clone(&self, alloc: Global) -> Mem<Bitmap>
+        ensures { IfOk result (λ b. b ≡ self.now) }
+    {
+        Ok(Bitmap {
+            bytes: self.bytes.try_clone(alloc)?,
+            start: self.start,
+            slots: self.slots,
+        })
+    }
+}
+
+/// A byte of eight equal bits.
+fn byte_of(value: bool) -> u8
+    ensures { result ≡ cond value 255 0 }
+{
+    if value { 255 } else { 0 }
+}
+
+fn filled(alloc: Global, byte: u8, length: usize) -> Mem<Vec<u8>>
+    ensures { IfOk result (λ bytes. bytes.items ≡ replicate length byte) }
+{
+    vec![in alloc; byte; length]
+}

@@ -1,0 +1,3 @@
+pub mod TypeData
+pub mod Seen
+pub mod Types

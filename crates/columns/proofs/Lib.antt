@@ -1,0 +1,11 @@
+pub mod Walks
+pub mod Readings
+pub mod Jobs
+pub mod Text
+pub mod CanonSteps
+pub mod Sound
+pub mod Trailing
+pub mod Utf8
+pub mod ReadBack
+pub mod ColumnText
+pub mod Equal

@@ -1,0 +1,108 @@
+-- A column as a JSON value: `{"data":{"mask":M,"values":[v..]},"type":"int32"}`.
+use Rattle.std.specs.Prelude.{ℕ, List, [], ◌∷◌, ◌++◌, map, Bool, true, false, ◌&&◌, ◌==◌, ℤ, pos, negsuc, int_le, if◌then◌else◌, Option, Some, None, is_some, unwrap_or, option_map, option_and_then, codes, bytes_eq}
+use Rattle.std.specs.Option.{option_zip}
+use Rattle.serde_json.specs.Data.{Data, null, number, string, array, object, Items, no_items, item, no_members, member}
+use Rattle.serde_json.specs.Find.{as_i64, as_number, as_str, as_array, as_null, as_object, of_integer, get}
+use Rattle.serde_json.specs.Events.{members_len}
+use Rattle.serde_json.specs.View.{items_of}
+use Rattle.serde_json.specs.Written.{compact_text}
+use Rattle.arrow_buffers.specs.Bits.{Bits, plain}
+use Rattle.arrow_types.specs.TypeData.{TypeData, int32}
+use Rattle.arrow_types.specs.Types.{physical_of}
+use Rattle.arrow_types.specs.declared.datatype.PhysicalType.{PhysicalType}
+use Rattle.arrow_types.specs.declared.datatype.PhysicalType.TheVariants as physical
+use Rattle.arrow_types.specs.declared.datatype.PrimitiveType.{PrimitiveType}
+use Rattle.arrow_types.specs.declared.datatype.PrimitiveType.TheVariants as primitive
+use Rattle.arrow_meaning.specs.Layouts.{Layout, primitives, type_of}
+
+-- ---- from a value
+
+-- what f gives for each of the list, if it gives something for all
+abbrev pub traverse : {A B : Type 0} → (A → Option B) → List A → Option (List B)
+traverse f [] = Some []
+traverse f (x ∷ xs) = option_and_then (λ y. option_map (λ ys. y ∷ ys) (traverse f xs)) (f x)
+
+abbrev pub list_of : Items → List Data
+list_of no_items = []
+list_of (item d ds) = d ∷ list_of ds
+
+-- the values at these two keys, of an object that has no other key
+abbrev pub two_members : List ℕ → List ℕ → Data → Option (Data × Data)
+two_members k l d = if unwrap_or (option_map members_len (as_object d)) 0 == 2 then option_zip (get k d) (get l d) else None
+
+abbrev pub is_text : List ℕ → Data → Bool
+is_text text d = unwrap_or (option_map (λ s. bytes_eq s text) (as_str d)) false
+
+abbrev pub bit_of : ℕ → Option Bool
+bit_of c = if c == 49 then Some true else (if c == 48 then Some false else None)
+
+-- null, or a text of 0 and 1: one bit a slot
+unfoldable pub mask_in : Data → Option (Option Bits)
+mask_in d = if is_some (as_null d) then Some None else option_and_then (λ s. option_map (λ bits. Some (plain bits)) (traverse bit_of s)) (as_str d)
+
+abbrev pub in_int32 : ℤ → Option (List ℤ)
+in_int32 z = if int_le (negsuc 2147483647) z && int_le z (pos 2147483647) then Some (z ∷ []) else None
+
+-- the numbers of a value of the physical type
+unfoldable pub number_in : PrimitiveType → Data → Option (List ℤ)
+number_in primitive.Int32 d = option_and_then in_int32 (option_and_then as_i64 (as_number d))
+
+unfoldable pub numbers_in : PrimitiveType → Data → Option (List (List ℤ))
+numbers_in p d = option_and_then (λ ds. traverse (number_in p) (list_of ds)) (as_array d)
+
+abbrev pub primitives_from : TypeData → PrimitiveType → Data × Data → Option Layout
+primitives_from t p d = option_and_then (λ m. option_map (primitives t m) (numbers_in p d.1)) (mask_in d.0)
+
+unfoldable pub primitives_in : TypeData → PrimitiveType → Data → Option Layout
+primitives_in t p d = option_and_then (primitives_from t p) (two_members (codes "mask") (codes "values") d)
+
+-- the data of a column of the type
+abbrev pub data_in : TypeData → Data → Option Layout
+data_in int32 d = primitives_in int32 primitive.Int32 d
+
+unfoldable pub type_in : Data → Option TypeData
+type_in d = if is_text (codes "int32") d then Some int32 else None
+
+abbrev pub column_from : Data × Data → Option Layout
+column_from d = option_and_then (λ t. data_in t d.0) (type_in d.1)
+
+-- the column that a value is, well formed or not, where it is in the grammar
+unfoldable pub column_of : Data → Option Layout
+column_of d = option_and_then column_from (two_members (codes "data") (codes "type") d)
+
+-- ---- to a value
+
+abbrev pub bit_char : Bool → ℕ
+bit_char bit = if bit then 49 else 48
+
+abbrev pub mask_value : Option Bits → Data
+mask_value None = null
+mask_value (Some b) = string (map bit_char b.bits)
+
+abbrev pub first_number : List ℤ → ℤ
+first_number [] = pos 0
+first_number (z ∷ zs) = z
+
+abbrev pub number_value : PrimitiveType → List ℤ → Data
+number_value primitive.Int32 zs = number (of_integer (first_number zs))
+
+abbrev pub numbers_value : PrimitiveType → List (List ℤ) → Data
+numbers_value p xs = array (items_of (map (number_value p) xs))
+
+abbrev pub primitives_value : Option PhysicalType → Option Bits → List (List ℤ) → Data
+primitives_value None m xs = null
+primitives_value (Some (physical.Primitive p)) m xs =
+    object (member (codes "mask") (mask_value m) (member (codes "values") (numbers_value p xs) no_members))
+
+abbrev pub data_value : Layout → Data
+data_value (primitives t m xs) = primitives_value (physical_of t) m xs
+
+abbrev pub type_value : TypeData → Data
+type_value int32 = string (codes "int32")
+
+abbrev pub column_value : Layout → Data
+column_value l = object (member (codes "data") (data_value l) (member (codes "type") (type_value (type_of l)) no_members))
+
+-- its compact text, and a line feed
+unfoldable pub column_text : Layout → List ℕ
+column_text l = compact_text (column_value l) ++ 10 ∷ []

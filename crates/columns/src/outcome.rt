@@ -1,0 +1,49 @@
+//! How a run ends.
+ghost use Rattle.std.specs.Prelude.{◌≡◌};
+
+/// How a run ended, and what the program tells of it.
+#[derive(Clone, Copy, Debug, PartialEq, Eq)]
+pub enum Outcome {
+    /// The input was read to its end and the output written whole.
+    Done,
+    /// The words are none of the forms.
+    Usage,
+    /// The input is no job.
+    BadJob,
+    /// The source failed.
+    ReadFault,
+    /// The sink failed; it holds a front of the output.
+    WriteFault,
+    /// Memory ran out; nothing is written.
+    OutOfMemory,
+}
+
+ghost use Rattle.columns.specs.Outcomes.{text_of, status_of};
+
+/// What the program writes to standard error, before a line feed. Takes no memory.
+pub fn outcome_text(outcome: &Outcome) -> &str
+    ensures { result.now ≡ text_of outcome.now }
+{
+    match outcome {
+        Outcome::Done => "done",
+        Outcome::Usage => "usage",
+        Outcome::BadJob => "bad job",
+        Outcome::ReadFault => "read fault",
+        Outcome::WriteFault => "write fault",
+        Outcome::OutOfMemory => "out of memory",
+    }
+}
+
+/// The status that the program ends with. Takes no memory.
+pub fn status(outcome: &Outcome) -> u8
+    ensures { result ≡ status_of outcome.now }
+{
+    match outcome {
+        Outcome::Done => 0,
+        Outcome::Usage => 2,
+        Outcome::BadJob => 4,
+        Outcome::ReadFault => 20,
+        Outcome::WriteFault => 21,
+        Outcome::OutOfMemory => 30,
+    }
+}

@@ -1,0 +1,207 @@
+// Whole runs over memory.
+use crate::job::run;
+use crate::memory::{MemorySink, MemorySource};
+use crate::outcome::Outcome;
+use std::alloc::{AllocError, Global};
+use std::test::Fail;
+
+const NULL_IN_THE_MIDDLE: &str =
+    "{\"data\":{\"mask\":\"101\",\"values\":[1,7,3]},\"type\":\"int32\"}";
+
+const ZERO_IN_THE_MIDDLE: &str =
+    "{\"data\":{\"mask\":\"101\",\"values\":[1,0,3]},\"type\":\"int32\"}\n";
+
+// A run over this input, and what its sink holds.
+fn run_of(
+    alloc: Global,
+    words: &[String],
+    input: &[u8],
+    reads: &[usize],
+    writes: &[usize],
+    held: &mut String,
+) -> Result<Outcome, AllocError> {
+    let mut source = MemorySource::new(alloc, input, 8, reads)?;
+    let mut sink = MemorySink::new(alloc, 256, 8, writes)?;
+    let outcome = run(alloc, words, &mut source, &mut sink);
+    held.clear();
+    for byte in sink.held() {
+        held.push(*byte as char)?;
+    }
+    Ok(outcome)
+}
+
+fn words_of(alloc: Global, words: &[&str]) -> Result<Vec<String>, AllocError> {
+    let mut all = Vec::new(alloc);
+    for word in words {
+        all.push(String::from_str(alloc, word)?)?;
+    }
+    Ok(all)
+}
+
+#[test]
+fn each_input_has_its_outcome(rt: HostRuntime) -> Result<(), Fail> {
+    let alloc = rt.alloc();
+    let words = words_of(alloc, &["canon"])?;
+    let mut held = String::new(alloc);
+    for (input, outcome, output) in [
+        (NULL_IN_THE_MIDDLE, Outcome::Done, ZERO_IN_THE_MIDDLE),
+        (
+            "{\"data\":{\"mask\":\"111\",\"values\":[1,7,3]},\"type\":\"int32\"}",
+            Outcome::Done,
+            "{\"data\":{\"mask\":null,\"values\":[1,7,3]},\"type\":\"int32\"}\n",
+        ),
+        (
+            " { \"type\" : \"int32\" , \"data\" : { \"values\" : [ ] , \"mask\" : \"\" } } ",
+            Outcome::Done,
+            "{\"data\":{\"mask\":null,\"values\":[]},\"type\":\"int32\"}\n",
+        ),
+        (
+            "{\"data\":{\"mask\":null,\"values\":[-2147483648,2147483647]},\"type\":\"int32\"}",
+            Outcome::Done,
+            "{\"data\":{\"mask\":null,\"values\":[-2147483648,2147483647]},\"type\":\"int32\"}\n",
+        ),
+        (
+            "{\"data\":{\"mask\":null,\"values\":[1]},\"type\":\"int33\"}",
+            Outcome::BadJob,
+            "",
+        ),
+        (
+            "{\"data\":{\"mask\":null,\"values\":[1]},\"type\":\"float32\"}",
+            Outcome::BadJob,
+            "",
+        ),
+        (
+            "{\"data\":{\"mask\":null,\"values\":[1.5]},\"type\":\"int32\"}",
+            Outcome::BadJob,
+            "",
+        ),
+        (
+            "{\"data\":{\"mask\":null,\"values\":[2147483648]},\"type\":\"int32\"}",
+            Outcome::BadJob,
+            "",
+        ),
+        (
+            "{\"data\":{\"mask\":\"10\",\"values\":[1,7,3]},\"type\":\"int32\"}",
+            Outcome::BadJob,
+            "",
+        ),
+        (
+            "{\"data\":{\"mask\":\"1x1\",\"values\":[1,7,3]},\"type\":\"int32\"}",
+            Outcome::BadJob,
+            "",
+        ),
+        (
+            "{\"data\":{\"mask\":null,\"values\":[1]},\"slice\":[0,1],\"type\":\"int32\"}",
+            Outcome::BadJob,
+            "",
+        ),
+        (
+            "{\"data\":{\"mask\":null,\"values\":[1]},\"type\":\"int32\"}x",
+            Outcome::BadJob,
+            "",
+        ),
+        ("{\"data\":", Outcome::BadJob, ""),
+        ("", Outcome::BadJob, ""),
+    ] {
+        let found = run_of(
+            alloc,
+            words.as_slice(),
+            input.as_bytes(),
+            &[],
+            &[],
+            &mut held,
+        )?;
+        assert_eq!(rt; found, outcome, "{input}");
+        assert_eq!(rt; held.as_str(), output, "{input}");
+    }
+    Ok(())
+}
+
+#[test]
+fn bytes_that_are_no_text_and_too_many_bytes_are_bad(rt: HostRuntime) -> Result<(), Fail> {
+    let alloc = rt.alloc();
+    let words = words_of(alloc, &["canon"])?;
+    let mut held = String::new(alloc);
+    let outcome = run_of(alloc, words.as_slice(), &[255], &[], &[], &mut held)?;
+    assert_eq!(rt; outcome, Outcome::BadJob);
+    let long = vec![in alloc; b' '; 16_777_217]?;
+    let mut source = MemorySource::new(alloc, long.as_slice(), 4096, &[])?;
+    let mut sink = MemorySink::new(alloc, 256, 8, &[])?;
+    let outcome = run(alloc, words.as_slice(), &mut source, &mut sink);
+    assert_eq!(rt; outcome, Outcome::BadJob);
+    assert_eq!(rt; sink.held().len(), 0);
+    Ok(())
+}
+
+#[test]
+fn other_words_read_nothing(rt: HostRuntime) -> Result<(), Fail> {
+    let alloc = rt.alloc();
+    let mut held = String::new(alloc);
+    let input = NULL_IN_THE_MIDDLE.as_bytes();
+    for words in [
+        words_of(alloc, &[])?,
+        words_of(alloc, &["gather"])?,
+        words_of(alloc, &["canon", "x"])?,
+    ] {
+        let outcome = run_of(alloc, words.as_slice(), input, &[1], &[1], &mut held)?;
+        assert_eq!(rt; outcome, Outcome::Usage);
+        assert_eq!(rt; held.as_str(), "");
+    }
+    Ok(())
+}
+
+// Each read fails in turn, until none is called.
+#[test]
+fn a_read_that_fails_is_told(rt: HostRuntime) -> Result<(), Fail> {
+    let alloc = rt.alloc();
+    let words = words_of(alloc, &["canon"])?;
+    let mut held = String::new(alloc);
+    let input = NULL_IN_THE_MIDDLE.as_bytes();
+    let mut faults = 0;
+    for call in 1..32 {
+        let outcome = run_of(alloc, words.as_slice(), input, &[call], &[], &mut held)?;
+        if outcome == Outcome::Done {
+            assert_eq!(rt; held.as_str(), ZERO_IN_THE_MIDDLE);
+            break;
+        }
+        assert_eq!(rt; outcome, Outcome::ReadFault);
+        assert_eq!(rt; held.as_str(), "");
+        faults = call;
+    }
+    // Seven pieces of eight bytes, and the call that finds the end.
+    assert_eq!(rt; faults, 8);
+    Ok(())
+}
+
+// Each write fails in turn, until none is called: the sink holds what the calls before it took.
+#[test]
+fn a_write_that_fails_is_told(rt: HostRuntime) -> Result<(), Fail> {
+    let alloc = rt.alloc();
+    let words = words_of(alloc, &["canon"])?;
+    let mut held = String::new(alloc);
+    let input = NULL_IN_THE_MIDDLE.as_bytes();
+    let mut faults = 0;
+    for (call, front) in [
+        (1, ""),
+        (2, "{\"data\":"),
+        (3, "{\"data\":{\"mask\":"),
+        (4, "{\"data\":{\"mask\":\"101\",\"v"),
+        (5, "{\"data\":{\"mask\":\"101\",\"values\":["),
+        (6, "{\"data\":{\"mask\":\"101\",\"values\":[1,0,3]},"),
+        (
+            7,
+            "{\"data\":{\"mask\":\"101\",\"values\":[1,0,3]},\"type\":\"",
+        ),
+        (8, ZERO_IN_THE_MIDDLE),
+    ] {
+        let outcome = run_of(alloc, words.as_slice(), input, &[], &[call], &mut held)?;
+        assert_eq!(rt; held.as_str(), front);
+        if outcome == Outcome::Done {
+            break;
+        }
+        assert_eq!(rt; outcome, Outcome::WriteFault);
+        faults = call;
+    }
+    assert_eq!(rt; faults, 7);
+    Ok(())
+}
