@@ -1,17 +1,17 @@
 -- Bits of bytes.
-use Rattle.std.proofs.Common.{◌≡◌, ◌≢◌, ℕ, ◌+◌, ◌-◌, ◌*◌, ◌/◌, ◌%◌, ◌<◌, ◌≤◌, zero, suc, Bool, true, false, not, ◌&&◌, cond, List, [], ◌∷◌, ◌++◌, map, length, take, get_or, replicate, nat_eq, refl, ap, sym, ◌∙◌, subst, arith, add-one}
+use Rattle.std.proofs.Common.{◌≡◌, ◌≢◌, ℕ, ◌+◌, ◌-◌, ◌*◌, ◌/◌, ◌%◌, ◌<◌, ◌≤◌, zero, suc, Bool, true, false, not, ◌&&◌, cond, List, [], ◌∷◌, ◌++◌, map, length, take, get_or, nat_eq, refl, ap, sym, ◌∙◌, subst, arith, add-one}
 use Rattle.std.specs.Int.{bit_at, from_bool}
-use Rattle.std.specs.List.{range_with_len, count_by}
+use Rattle.std.specs.List.{range_with_len, count_by, list_all}
 use Rattle.std.specs.Prelude.{count_ones, set}
 use Rattle.std.specs.Simd.Lanes.{mask_l}
 use Rattle.std.proofs.lemmas.Simd.{mask_l-lt, bit_mask_l, ones-mask_l}
-use Rattle.std.proofs.lemmas.Nat.Bits.{bit_at-lt, same_from_bits_below, bit_at_ones, bit_at-zero}
-use Rattle.std.proofs.lemmas.List.{get_or-set_same, get_or-set_other, get_or-replicate, get_or_append_left, length-replicate}
-use Rattle.std.proofs.lemmas.List.FromFn.{map-range_with_len_more, sum_by-map-range_with_len_more, fill_by_all}
+use Rattle.std.proofs.lemmas.Nat.Bits.{bit_at-lt, same_from_bits_below}
+use Rattle.std.proofs.lemmas.List.{get_or-set_same, get_or-set_other, get_or_append_left}
+use Rattle.std.proofs.lemmas.List.FromFn.{map-range_with_len_more, sum_by-map-range_with_len_more}
 use Rattle.std.proofs.lemmas.List.Sums.{sum_by-append, count_by-le-length}
 use Rattle.std.proofs.Math.Dec.{eqb}
 use Rattle.std.proofs.lemmas.Bool.{eq-eqb, ne_eqb, eqb-true, eqb-false}
-use Rattle.arrow_buffers.specs.Bits.{Bits, both, same, ones_of, bit_of, bits_of, lead_of, cut_bits}
+use Rattle.arrow_buffers.specs.Bits.{Bits, both, same, count_unset, ones_of, bit_of, bits_of, lead_of, cut_bits}
 use Rattle.arrow_buffers.proofs.Windows.{cut_range, same_range, shifted, split_sum}
 use Rattle.std.proofs.lemmas.List.FromFn.{get_or-map-range_with_len, length-map-range_with_len}
 
@@ -21,6 +21,10 @@ seen bytes s n = record { bits = bits_of bytes s n; lead = lead_of s n }
 
 pub seen_length : (bytes : List ℕ) (s n : ℕ) (b : Bits) → seen bytes s n ≡ b → length b.bits ≡ n
 seen_length bytes s n b e = ap (λ x. length x.bits) (sym e) ∙ length-map-range_with_len (bit_of bytes) s n
+
+pub seen_lead : (bytes : List ℕ) (s n : ℕ) (b : Bits) → seen bytes s n ≡ b → (n ≡ 0 → ⊥) → b.lead ≡ s % 8
+seen_lead bytes s zero b e h = absurd (h refl)
+seen_lead bytes s (suc n) b e h = ap (λ x. x.lead) (sym e)
 
 pub cut_lead : (s m o n : ℕ) → o + n ≤ m → lead_of (s + o) n ≡ lead_of (lead_of s m + o) n
 cut_lead s m o zero h = refl
@@ -87,26 +91,6 @@ pub same_longer : (xs : List ℕ) (y n : ℕ) → n ≤ 8 * length xs → bits_o
 same_longer xs y n h =
     same_range (bit_of (xs ++ y ∷ [])) (bit_of xs) 0 n
     (λ k l u. ap (λ x. nat_eq (bit_at x (k % 8)) 1) (get_or_append_left xs (y ∷ []) 0 (k / 8) (omega arith)))
-
--- ---- equal bits
-pub all_bits : (bytes : List ℕ) (bit : Bool) (n : ℕ) → ((k : ℕ) → k < n → bit_of bytes k ≡ bit) → bits_of bytes 0 n ≡ replicate n bit
-all_bits bytes bit n h =
-    sym (fill_by_all (bit_of bytes) (replicate n bit) n bit (length-replicate n bit)
-    (λ k l. get_or-replicate n k bit bit l ∙ sym (h k l)))
-
-pub ones_bit : (m n k : ℕ) → n ≤ m * 8 → k < n → bit_of (replicate m 255) k ≡ true
-ones_bit m n k h l =
-    ap (λ x. nat_eq (bit_at x (k % 8)) 1) (get_or-replicate m (k / 8) 255 0 (omega arith))
-    ∙ ap (λ x. nat_eq x 1) (bit_at_ones 8 (k % 8) (omega arith))
-
-pub zeros_bit : (m n k : ℕ) → n ≤ m * 8 → k < n → bit_of (replicate m 0) k ≡ false
-zeros_bit m n k h l =
-    ap (λ x. nat_eq (bit_at x (k % 8)) 1) (get_or-replicate m (k / 8) 0 0 (omega arith))
-    ∙ ap (λ x. nat_eq x 1) (bit_at-zero (k % 8))
-
-pub alike : (bytes : List ℕ) (m n : ℕ) (bit : Bool) → bytes ≡ replicate m (cond bit 255 0) → n ≤ m * 8 → bits_of bytes 0 n ≡ replicate n bit
-alike bytes m n true e h = ap (λ bs. bits_of bs 0 n) e ∙ all_bits (replicate m 255) true n (λ k l. ones_bit m n k h l)
-alike bytes m n false e h = ap (λ bs. bits_of bs 0 n) e ∙ all_bits (replicate m 0) false n (λ k l. zeros_bit m n k h l)
 
 pub no_lead : (n : ℕ) → lead_of 0 n ≡ 0
 no_lead zero = refl
@@ -223,3 +207,14 @@ left_last bytes front back bit e h =
     ap (bits_of bytes front) q
     ∙ map-range_with_len_more (bit_of bytes) front (back - 1 - front) (back - 1) (omega arith)
     ∙ ap (λ b. bits_of bytes front (back - 1 - front) ++ b ∷ []) (sym e)
+
+-- no bit is unset, or some bit is
+pub none_unset : (bits : List Bool) → count_unset bits ≡ 0 → list_all same bits ≡ true
+none_unset [] h = refl
+none_unset (true ∷ bits) h = let a = count_by-cons not true bits in none_unset bits (omega arith)
+none_unset (false ∷ bits) h = absurd (let a = count_by-cons not false bits in omega arith)
+
+pub some_unset : (bits : List Bool) → (count_unset bits ≡ 0 → ⊥) → list_all same bits ≡ false
+some_unset [] h = absurd (h refl)
+some_unset (true ∷ bits) h = let a = count_by-cons not true bits in some_unset bits (λ e. h (omega arith))
+some_unset (false ∷ bits) h = refl

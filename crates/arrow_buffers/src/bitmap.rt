@@ -1,7 +1,7 @@
 //! A window over shared bits.
 ghost use Rattle.std.specs.Prelude.{◌≡◌, ◌+◌, ◌<◌, ◌≤◌, length as count, get_or, cond, false, replicate, IfOk};
 ghost use Rattle.std.specs.List.{count_by};
-ghost use Rattle.arrow_buffers.specs.Bits.{Bits, plain, cut_bits, count_unset, both, same};
+ghost use Rattle.arrow_buffers.specs.Bits.{Bits, plain, cut_bits, count_unset, byte_count, both, same};
 
 use crate::bits::{bit_at, count_set};
 use crate::{BitmapIter, Buffer, Mem, MutableBitmap};
@@ -30,6 +30,7 @@ impl Model for Bitmap {
 }
 
 impl Bitmap {
+    /// The bits of a slice, with none before them.
     pub fn from_bools(alloc: Global, bits: &[bool]) -> Mem<Bitmap>
         ensures { IfOk result (λ b. b ≡ plain bits.now) }
     {
@@ -40,17 +41,16 @@ impl Bitmap {
         built.freeze()
     }
 
+    /// `length` equal bits, with none before them.
     pub fn new_with_value(alloc: Global, value: bool, length: usize) -> Mem<Bitmap>
         ensures { IfOk result (λ b. b ≡ plain (replicate length value)) }
     {
-        let bytes = filled(alloc, byte_of(value), length.div_ceil(8))?;
-        Ok(Bitmap {
-            bytes: Buffer::from_vec(alloc, bytes)?,
-            start: 0,
-            slots: length,
-        })
+        let mut built = MutableBitmap::new(alloc);
+        built.extend_constant(length, value)?;
+        built.freeze()
     }
 
+    /// The count of bits.
     pub fn len(&self) -> usize
         ensures value { result ≡ count self.now.bits }
         ensures led { self.now.lead < 8 }
@@ -58,12 +58,26 @@ impl Bitmap {
         self.slots
     }
 
+    /// The count of bits before the first one in its byte, 0 to 7, and 0 for no bits.
     pub fn lead(&self) -> usize
-        ensures { result ≡ self.now.lead }
+        ensures value { result ≡ self.now.lead }
+        ensures bound { result < 8 }
+        ensures none { count self.now.bits ≡ 0 → result ≡ 0 }
     {
         if self.slots == 0 { 0 } else { self.start % 8 }
     }
 
+    /// How many bytes the bits stand in, with those before them in the first byte.
+    pub fn byte_len(&self) -> usize
+        ensures { result ≡ byte_count self.now }
+    {
+        if self.slots == 0 {
+            return 0;
+        }
+        (self.start % 8 + self.slots).div_ceil(8)
+    }
+
+    /// The bit at `i`.
     pub fn get_bit(&self, i: usize) -> bool
         requires { i < count self.now.bits }
         ensures { result ≡ get_or self.now.bits i false }
@@ -79,12 +93,14 @@ impl Bitmap {
         count_set(self.bytes.as_slice(), self.start, self.start + self.slots)
     }
 
+    /// The count of bits that are unset, whole bytes at a time.
     pub fn unset_bits(&self) -> usize
         ensures { result ≡ count_unset self.now.bits }
     {
         self.slots - self.set_bits()
     }
 
+    /// Gives the bits in order.
     pub fn iter(&self) -> BitmapIter<'_>
         ensures { result ≡ self.now.bits }
     {
@@ -95,6 +111,7 @@ impl Bitmap {
         }
     }
 
+    /// The bits that are set in both, with none before them.
     pub fn and(&self, alloc: Global, other: &Bitmap) -> Mem<Bitmap>
         requires { count self.now.bits ≡ count other.now.bits }
         ensures { IfOk result (λ b. b ≡ plain (both self.now.bits other.now.bits)) }
@@ -125,17 +142,4 @@ impl Bitmap {
             slots: self.slots,
         })
     }
-}
-
-/// A byte of eight equal bits.
-fn byte_of(value: bool) -> u8
-    ensures { result ≡ cond value 255 0 }
-{
-    if value { 255 } else { 0 }
-}
-
-fn filled(alloc: Global, byte: u8, length: usize) -> Mem<Vec<u8>>
-    ensures { IfOk result (λ bytes. bytes.items ≡ replicate length byte) }
-{
-    vec![in alloc; byte; length]
 }

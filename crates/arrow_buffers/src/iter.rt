@@ -1,6 +1,7 @@
 //! The bits of a bitmap, in order.
-ghost use Rattle.std.specs.Prelude.{◌≡◌, ◌<◌, ◌≤◌};
-ghost use Rattle.std.specs.Iterator.{YieldsFirst, YieldsLast, item_count};
+ghost use Rattle.std.specs.Prelude.{◌≡◌, ◌<◌, ◌≤◌, length as count, Some, IfSome};
+ghost use Rattle.std.specs.Iterator.{YieldsFirst, YieldsLast, item_count, UpTo, at_most};
+ghost use Rattle.std.specs.Iterator.SizeHint.{IsWithinCount};
 
 use crate::bits::bit_at;
 use std::iter::FusedIterator;
@@ -41,7 +42,11 @@ impl<'a> Iterator for BitmapIter<'a> {
         Some(bit)
     }
 
-    fn size_hint(&self) -> (usize, Option<usize>) {
+    fn size_hint(&self) -> (usize, Option<usize>)
+        ensures lower { IsWithinCount result.0 (at_most (count self.now)) }
+        ensures upper { IfSome result.1 (UpTo (at_most (count self.now))) }
+        ensures exact { (result.0 ≡ count self.now) × (result.1 ≡ Some result.0) }
+    {
         let len = self.len();
         (len, Some(len))
     }

@@ -1,8 +1,8 @@
 //! Bits that grow.
-ghost use Rattle.std.specs.Prelude.{◌≡◌, ◌+◌, ◌*◌, ◌%◌, ◌<◌, ◌≤◌, ◌^◌, length as count, [], ◌∷◌, ◌++◌, IfOk, OnOk, OnErr};
+ghost use Rattle.std.specs.Prelude.{◌≡◌, ◌+◌, ◌*◌, ◌<◌, ◌≤◌, ◌^◌, length as count, [], ◌∷◌, ◌++◌, take, drop, replicate, get_or, slice_set, false, IfOk, OnOk, OnErr};
 ghost use Rattle.arrow_buffers.specs.Bits.{plain, bits_of};
 
-use crate::bits::write_bit;
+use crate::bits::{append_bits, append_equal, bit_at, write_bit};
 use crate::{Bitmap, Buffer, Mem};
 use std::alloc::{AllocError, Global};
 use std::marker::Model;
@@ -26,6 +26,7 @@ impl Model for MutableBitmap {
 }
 
 impl MutableBitmap {
+    /// No bits, to grow in the given memory.
     pub fn new(alloc: Global) -> MutableBitmap
         ensures { result ≡ [] }
     {
@@ -35,6 +36,30 @@ impl MutableBitmap {
         }
     }
 
+    /// The count of bits.
+    pub fn len(&self) -> usize
+        ensures { result ≡ count self.now }
+    {
+        self.slots
+    }
+
+    /// The bit at `i`.
+    pub fn get(&self, i: usize) -> bool
+        requires { i < count self.now }
+        ensures { result ≡ get_or self.now i false }
+    {
+        bit_at(self.bytes.as_slice(), i)
+    }
+
+    /// Writes the bit at `i`.
+    pub fn set(&mut self, i: usize, bit: bool)
+        requires { i < count self.old }
+        ensures { self.new ≡ slice_set self.old i bit }
+    {
+        write_bit(&mut self.bytes, i, bit);
+    }
+
+    /// Appends one bit.
     pub fn push(&mut self, bit: bool) -> Mem<()>
         ensures ok { OnOk result (self.new ≡ self.old ++ bit ∷ []) }
         ensures err { OnErr result (self.new ≡ self.old) }
@@ -47,22 +72,60 @@ impl MutableBitmap {
         Ok(())
     }
 
-    /// Appends the bits of whole bytes, where the bits so far fill whole bytes.
-    pub fn extend_bytes(&mut self, bytes: &[u8]) -> Mem<()>
-        requires { count self.old % 8 ≡ 0 }
-        ensures { OnOk result (self.new ≡ self.old ++ bits_of bytes.now 0 (8 * count bytes.now)) }
+    /// Appends `n` equal bits.
+    pub fn extend_constant(&mut self, n: usize, bit: bool) -> Mem<()>
+        ensures ok { OnOk result (self.new ≡ self.old ++ replicate n bit) }
+        ensures err { OnErr result (self.new ≡ self.old) }
     {
-        let Some(more) = bytes.len().checked_mul(8) else {
+        let Some(slots) = self.slots.checked_add(n) else {
             return Err(AllocError);
         };
-        let Some(slots) = self.slots.checked_add(more) else {
-            return Err(AllocError);
-        };
-        append_bytes(&mut self.bytes, self.slots, bytes)?;
+        append_equal(&mut self.bytes, self.slots, n, bit)?;
         self.slots = slots;
         Ok(())
     }
 
+    /// Appends `len` bits of a bitmap, those from `start` on.
+    pub fn extend_from_range(&mut self, bits: &Bitmap, start: usize, len: usize) -> Mem<()>
+        requires { start + len ≤ count bits.now.bits }
+        ensures ok { OnOk result (self.new ≡ self.old ++ take len (drop start bits.now.bits)) }
+        ensures err { OnErr result (self.new ≡ self.old) }
+    {
+        let Some(slots) = self.slots.checked_add(len) else {
+            return Err(AllocError);
+        };
+        append_bits(
+            &mut self.bytes,
+            self.slots,
+            bits.bytes.as_slice(),
+            bits.start + start,
+            len,
+        )?;
+        self.slots = slots;
+        Ok(())
+    }
+
+    /// Keeps the first `len` bits, or all where there are no more.
+    pub fn truncate(&mut self, len: usize)
+        ensures { self.new ≡ take len self.old }
+    {
+        if len < self.slots {
+            self.slots = len;
+        }
+    }
+
+    /// Makes room for `n` more bits.
+    pub fn reserve(&mut self, n: usize) -> Mem<()>
+        ensures { self.new ≡ self.old }
+    {
+        let Some(slots) = self.slots.checked_add(n) else {
+            return Err(AllocError);
+        };
+        let bytes = slots.div_ceil(8);
+        self.bytes.reserve(bytes.saturating_sub(self.bytes.len()))
+    }
+
+    /// The bits as a bitmap, with no bits before them.
     pub fn freeze(self) -> Mem<Bitmap>
         ensures { IfOk result (λ b. b ≡ plain self) }
     {
@@ -98,16 +161,4 @@ fn grow(bytes: &mut Vec<u8>, slots: usize, bit: bool) -> Mem<()>
     make_room(bytes, slots)?;
     write_bit(bytes, slots, bit);
     Ok(())
-}
-
-/// Writes whole bytes behind the first `slots` bits, which fill whole bytes.
-fn append_bytes(bytes: &mut Vec<u8>, slots: usize, more: &[u8]) -> Mem<()>
-    requires { (slots % 8 ≡ 0) × (slots ≤ 8 * count bytes.old.items) }
-    ensures ok { OnOk result (bits_of bytes.new.items 0 (slots + 8 * count more.now)
-        ≡ bits_of bytes.old.items 0 slots ++ bits_of more.now 0 (8 * count more.now)) }
-    ensures fits { OnOk result (slots + 8 * count more.now ≤ 8 * count bytes.new.items) }
-    ensures err { OnErr result (slots ≤ 8 * count bytes.new.items) }
-{
-    bytes.truncate(slots / 8);
-    bytes.extend_from_slice(more)
 }

@@ -1,5 +1,10 @@
+pub mod Natives
+pub mod NativesFit
 pub mod Numbers
-pub mod NumbersFit
-pub mod Slots
+pub mod Packs
 pub mod Primitives
 pub mod Refusals
+pub mod SlotCode
+pub mod Slots
+pub mod ViewCode
+pub mod Views

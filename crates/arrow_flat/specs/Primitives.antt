@@ -3,7 +3,12 @@ use Rattle.std.specs.Prelude.{◌≡◌, ◌<◌, ℕ, Bool, true, false, cond, 
 use Rattle.std.specs.Borrow.{Bor}
 use Rattle.std.specs.Simd.Lanes.{zip2}
 use Rattle.arrow_buffers.specs.Bits.{Bits}
+use Rattle.arrow_types.specs.Carried.{IsCarried}
+use Rattle.arrow_types.specs.Seen.{seen}
+use Rattle.arrow_types.specs.Types.{physical_of}
 use Rattle.arrow_types.specs.declared.datatype.ArrowDataType.{ArrowDataType}
+use Rattle.arrow_types.specs.declared.datatype.PhysicalType.TheVariants as physical
+use Rattle.arrow_types.specs.declared.datatype.PrimitiveType.{PrimitiveType}
 
 -- the type, the values at all slots, and the mask
 pub record Primitives (T : Type 0) : Type 0 where
@@ -21,10 +26,12 @@ abbrev pub IsLed : Option Bits → Type 0
 IsLed None = Unit {0}
 IsLed (Some b) = b.lead < 8
 
--- What every array keeps of its mask.
-pub record IsMasked (m : Option Bits) (n : ℕ) : Type 0 where
+-- What every array keeps: a mask for its slots, and a type that columns have and that is stored as values of this type.
+pub record IsSound (p : PrimitiveType) (t : ArrowDataType) (m : Option Bits) (n : ℕ) : Type 0 where
   pub fits : MaskFits m n
   pub led : IsLed m
+  pub stored : physical_of (seen t) ≡ Some (physical.Primitive p)
+  pub carried : IsCarried (seen t)
 
 abbrev pub valid_at : Option Bits → ℕ → Bool
 valid_at None i = true

@@ -3,8 +3,9 @@ ghost use Rattle.std.specs.Prelude.{◌≡◌, ℤ, List, pos};
 ghost use Rattle.std.specs.Int.{w32};
 ghost use Rattle.arrow_types.specs.declared.datatype.PrimitiveType.{PrimitiveType};
 ghost use Rattle.arrow_types.specs.declared.datatype.PrimitiveType.TheVariants as primitive;
-ghost use Rattle.arrow_flat.specs.Numbers.{IsNumber, zeros, signed};
-ghost use Rattle.arrow_flat.specs.NumbersFit.{IsNumber-signed32, signed32-zero};
+ghost use Rattle.arrow_flat.specs.Natives.{signed, IsNative};
+ghost use Rattle.arrow_flat.specs.NativesFit.{in_range_32, zero_32};
+ghost use Rattle.arrow_flat.specs.Numbers.{IsNumber, zeros};
 
 use arrow_types::PrimitiveType;
 
@@ -24,6 +25,8 @@ pub trait NativeType: Copy {
     fn zero() -> Self
         ensures { result ≡ zero };
 
+    ghost native: { IsNative PRIMITIVE };
+
     ghost parts_fit: { (x : Self) → IsNumber PRIMITIVE (parts x) };
 
     ghost zero_parts: { parts zero ≡ zeros PRIMITIVE };
@@ -38,9 +41,11 @@ impl NativeType for i32 {
 
     ghost zero = { pos 0 };
 
-    ghost parts_fit = { IsNumber-signed32 };
+    ghost native = { tt };
 
-    ghost zero_parts = { signed32-zero };
+    ghost parts_fit = { in_range_32 };
+
+    ghost zero_parts = { zero_32 };
 
     fn zero() -> i32 {
         0

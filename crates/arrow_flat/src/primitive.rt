@@ -1,10 +1,15 @@
 //! Arrays of fixed-width values under a mask.
-ghost use Rattle.std.specs.Prelude.{◌≡◌, ◌+◌, ◌<◌, ◌≤◌, length as count, slice_get, Some, Decides, MatchResult};
-ghost use Rattle.arrow_flat.specs.Primitives.{MaskFits, IsLed, IsMasked};
+ghost use Rattle.std.specs.Prelude.{◌≡◌, ◌+◌, ◌<◌, ◌≤◌, length as count, slice_get, true, Some, Decides, MatchResult};
+ghost use Rattle.arrow_types.specs.Carried.{IsCarried};
+ghost use Rattle.arrow_types.specs.Seen.{seen};
+ghost use Rattle.arrow_types.specs.Types.{physical_of};
+ghost use Rattle.arrow_types.specs.declared.datatype.PhysicalType.TheVariants as physical;
+ghost use Rattle.arrow_flat.specs.Natives.{IsNative, IsStoredNative};
+ghost use Rattle.arrow_flat.specs.Primitives.{MaskFits, IsLed, IsSound};
 
 use crate::{NativeType, PrimitiveIter};
 use arrow_buffers::{Bitmap, Buffer};
-use arrow_types::{ArrowDataType, PolarsError, PolarsResult, Reason};
+use arrow_types::{ArrowDataType, PolarsError, PolarsResult, PrimitiveType, Reason};
 use std::marker::Model;
 
 /// An array of values of one width, seen as its type, its values and its mask.
@@ -19,20 +24,25 @@ pub struct PrimitiveArray<T: NativeType> {
 
 impl<T: NativeType> Model for PrimitiveArray<T> {
     ghost use Rattle.std.specs.Prelude.{length};
-    ghost use Rattle.arrow_flat.specs.Primitives.{Primitives, IsMasked};
+    ghost use Rattle.std.specs.Coded.{codes};
+    ghost use Rattle.arrow_types.specs.contracts.datatype.ArrowDataType as data_type;
+    ghost use Rattle.arrow_flat.specs.Primitives.{Primitives, IsSound};
 
     ghost Value = { Primitives T };
 
+    ghost coded = { Prim.hlevel (codes, data_type.the_row.coded) };
+
     ghost view = { λ a. record { dtype = a.dtype; values = a.values; mask = a.validity } };
 
-    ghost invariant = { λ a. IsMasked a.validity (length a.values) };
+    ghost invariant = { λ a. IsSound T.PRIMITIVE a.dtype a.validity (length a.values) };
 }
 
 impl<T: NativeType> PrimitiveArray<T> {
     ghost use Rattle.arrow_flat.specs.Primitives.{Primitives, slots, valid_at, seen_mask};
     ghost use Rattle.arrow_flat.specs.Refusals.{Refused};
 
-    /// The array of these parts. ComputeError(MaskLength) exactly where a mask is there and hasn't one bit a value.
+    /// The array of these parts. Refused as ComputeError(MaskLength) where a mask is there and hasn't one bit a value, then as
+    /// ComputeError(WrongLogicalType) where the type isn't stored as T.
     ///
     /// Takes no memory.
     pub fn try_new(
@@ -41,11 +51,14 @@ impl<T: NativeType> PrimitiveArray<T> {
         validity: Option<Bitmap>,
     ) -> PolarsResult<PrimitiveArray<T>>
         ensures { MatchResult result
-            (λ a. (a ≡ record { dtype = dtype; values = values; mask = validity }) × IsMasked validity (count values))
-            (λ e. Refused e (count values) validity) }
+            (λ a. (a ≡ record { dtype = dtype; values = values; mask = validity }) × IsSound T.PRIMITIVE dtype validity (count values))
+            (λ e. Refused e T.PRIMITIVE dtype validity (count values)) }
     {
         if !mask_fits(&validity, values.len()) {
             return Err(PolarsError::ComputeError(Reason::MaskLength));
+        }
+        if !is_stored_as(&dtype, T::PRIMITIVE) {
+            return Err(PolarsError::ComputeError(Reason::WrongLogicalType));
         }
         Ok(PrimitiveArray {
             dtype,
@@ -57,7 +70,7 @@ impl<T: NativeType> PrimitiveArray<T> {
     /// The whole type, extensions included.
     pub fn dtype(&self) -> &ArrowDataType
         ensures value { result.now ≡ self.now.dtype }
-        ensures masked { IsMasked self.now.mask (count self.now.values) }
+        ensures sound { IsSound T.PRIMITIVE self.now.dtype self.now.mask (count self.now.values) }
     {
         &self.dtype
     }
@@ -136,5 +149,33 @@ fn mask_fits(validity: &Option<Bitmap>, length: usize) -> bool
     match validity {
         None => true,
         Some(mask) => mask.len() == length,
+    }
+}
+
+/// Whether the type is stored as values of the primitive type, which columns hold.
+fn is_stored_as(dtype: &ArrowDataType, primitive: PrimitiveType) -> bool
+    requires { IsNative primitive }
+    ensures stored { Decides result (physical_of (seen dtype.now) ≡ Some (physical.Primitive primitive)) }
+    ensures carried { result ≡ true → IsCarried (seen dtype.now) }
+{
+    know_carried(dtype);
+    match dtype.to_physical_type() {
+        Some(stored) => stored.eq_primitive(primitive),
+        None => false,
+    }
+}
+
+/// Tells a caller that columns have each type that is stored as their values. It does nothing.
+#[tactic(auto, using(crate::proofs::TypeViews::seen_types))]
+fn know_carried(dtype: &ArrowDataType)
+    ensures { IsStoredNative (physical_of (seen dtype.now)) → IsCarried (seen dtype.now) }
+{
+    match dtype {
+        ArrowDataType::Decimal(precision, scale) => {
+            let _precision = *precision;
+            let _scale = *scale;
+        }
+        ArrowDataType::Extension(extension) => know_carried(&extension.get().inner),
+        _ => {}
     }
 }

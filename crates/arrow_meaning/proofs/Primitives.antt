@@ -1,87 +1,104 @@
--- The canonical layout of primitive columns.
-use Rattle.std.proofs.Common.{◌≡◌, ◌^◌, ◌<◌, ℕ, Bool, true, false, cond, List, [], ◌∷◌, length, refl, ap, sym, ◌∙◌, arith, Option, Some, None}
+-- The layout of a primitive array.
+use Rattle.std.proofs.Common.{◌≡◌, ◌^◌, ◌<◌, ℕ, Bool, true, false, cond, List, [], ◌∷◌, length, refl, ap, sym, ◌∙◌, subst, arith, Option, Some, None}
 use Rattle.std.specs.Prelude.{ℤ, map}
-use Rattle.std.specs.List.{AllByRecursion, list_all}
+use Rattle.std.specs.List.{AllByRecursion}
 use Rattle.std.specs.Simd.Lanes.{zip2}
 use Rattle.std.proofs.lemmas.List.{length-map}
-use Rattle.arrow_buffers.specs.Bits.{Bits, plain}
-use Rattle.arrow_types.specs.TypeData.{TypeData, int32}
+use Rattle.arrow_buffers.specs.Bits.{Bits}
+use Rattle.arrow_types.specs.Seen.{seen}
+use Rattle.arrow_types.specs.TypeData.{TypeData}
+use Rattle.arrow_types.specs.TypeData as T
+use Rattle.arrow_types.specs.Types.{physical_of}
+use Rattle.arrow_types.specs.declared.datatype.PhysicalType.{PhysicalType}
+use Rattle.arrow_types.specs.declared.datatype.PhysicalType.TheVariants as physical
 use Rattle.arrow_types.specs.declared.datatype.PrimitiveType.{PrimitiveType}
-use Rattle.arrow_types.specs.declared.datatype.PrimitiveType.TheVariants as primitive
-use Rattle.arrow_flat.specs.Numbers.{IsNumber, zeros}
-use Rattle.arrow_flat.specs.Primitives.{IsMasked, masked as option_masked}
-use Rattle.arrow_flat.specs.Slots.{Slot, null, num, is_valid, numbers_or}
-use Rattle.arrow_meaning.specs.SlotsOf.{IsPrimitiveSlot, HasSlots}
-use Rattle.arrow_meaning.specs.Denote.{masked_by, masked, denote}
-use Rattle.arrow_meaning.specs.WellFormed.{WellFormed}
-use Rattle.arrow_meaning.specs.Canon.{mask_of, canon}
-use Rattle.arrow_meaning.specs.Nodes.{primitive_slot}
+use Rattle.arrow_flat.specs.Numbers.{IsNumber}
+use Rattle.arrow_flat.specs.Primitives.{Primitives, MaskFits as MaskCovers, IsLed, IsSound, masked as option_masked}
+use Rattle.arrow_flat.specs.Slots.{Slot, null, num}
+use Rattle.arrow_meaning.specs.Denote.{masked_by, masked}
+use Rattle.arrow_meaning.specs.Forms.{Form, nulls_of, booleans_of, primitives_of, binaries_of, fixed_size_binaries_of, views_of, lists_of, fixed_size_lists_of, structs_of, unions_of, dictionaries_of, no_form, form_of, primitive_by}
+use Rattle.arrow_meaning.specs.Layouts.{Layout, primitives}
+use Rattle.arrow_meaning.specs.Nodes.{primitive_layout, primitive_slot}
+use Rattle.arrow_meaning.specs.WellFormed.{MaskFits, IsColumn, WellFormed}
+use Rattle.arrow_meaning.proofs.Physical.{list_kind, physical_by, physical-by}
+
+-- ---- its type
+
+not_numbers : (t : TypeData) (p : PrimitiveType) → list_kind t ≡ physical.Primitive p → ⊥
+not_numbers (T.map f o) p e = cc
+not_numbers (T.extension n t m) p e = not_numbers t p e
+not_numbers _ p e = cc
+
+form_from : (t : TypeData) (f : Form) (p : PrimitiveType) → physical_by t f ≡ Some (physical.Primitive p) → f ≡ primitives_of p
+form_from t (primitives_of q) p e = let same : q ≡ p = cc in ap primitives_of same
+form_from t nulls_of p e = cc
+form_from t booleans_of p e = cc
+form_from t (binaries_of false false) p e = cc
+form_from t (binaries_of false true) p e = cc
+form_from t (binaries_of true false) p e = cc
+form_from t (binaries_of true true) p e = cc
+form_from t (fixed_size_binaries_of k) p e = cc
+form_from t (views_of false) p e = cc
+form_from t (views_of true) p e = cc
+form_from t (lists_of false u) p e = let same : list_kind t ≡ physical.Primitive p = cc in absurd (not_numbers t p same)
+form_from t (lists_of true u) p e = cc
+form_from t (fixed_size_lists_of k u) p e = cc
+form_from t (structs_of fs) p e = cc
+form_from t (unions_of mode ids fs) p e = cc
+form_from t (dictionaries_of k u) p e = cc
+form_from t no_form p e = cc
+
+-- a type is stored as primitive values exactly where its form says so
+pub primitive_form : (t : TypeData) (p : PrimitiveType) → physical_of t ≡ Some (physical.Primitive p) → form_of t ≡ primitives_of p
+primitive_form t p e = form_from t (form_of t) p (sym (physical-by t) ∙ e)
+
+pub primitive_physical : (t : TypeData) (p : PrimitiveType) → form_of t ≡ primitives_of p → physical_of t ≡ Some (physical.Primitive p)
+primitive_physical t p e = physical-by t ∙ ap (physical_by t) e
+
+-- ---- that it is well formed
+
+mask_fits : (m : Option Bits) (n : ℕ) → MaskCovers m n → IsLed m → MaskFits m n
+mask_fits None n h k = tt
+mask_fits (Some b) n h k = (h, k)
 
 -- each value of a list is one of the type
-pub are_numbers : {T : Type 0} (p : PrimitiveType) (parts : T → List ℤ) → ((x : T) → IsNumber p (parts x)) → (xs : List T) → AllByRecursion (IsNumber p) (map parts xs)
+are_numbers : {T : Type 0} (p : PrimitiveType) (parts : T → List ℤ) → ((x : T) → IsNumber p (parts x)) → (xs : List T) → AllByRecursion (IsNumber p) (map parts xs)
 are_numbers p parts h [] = tt
 are_numbers p parts h (x ∷ xs) = (h x, are_numbers p parts h xs)
 
--- ---- what a layout denotes, by the optional values of its array
+well_formed_by : (t : TypeData) (p : PrimitiveType) (m : Option Bits) (xs : List (List ℤ)) → form_of t ≡ primitives_of p → IsColumn t (primitives_of p) m (length xs) → AllByRecursion (IsNumber p) xs
+    → WellFormed (primitives t m xs)
+well_formed_by t p m xs e h k =
+    let same : p ≡ primitive_by (form_of t) = sym (ap primitive_by e) in
+    (subst (λ q. IsColumn t (primitives_of q) m (length xs)) same h, subst (λ q. AllByRecursion (IsNumber q) xs) same k)
+
+pub well_formed_primitive : {T : Type 0} (p : PrimitiveType) (parts : T → List ℤ) → ((x : T) → IsNumber p (parts x)) → (a : Primitives T) → IsSound p a.dtype a.mask (length a.values) → length a.values < 2 ^ 64
+    → WellFormed (primitive_layout parts a)
+well_formed_primitive p parts h a sound short =
+    let e : length (map parts a.values) ≡ length a.values = length-map a.values parts in
+    let form = primitive_form (seen a.dtype) p sound.stored in
+    well_formed_by (seen a.dtype) p a.mask (map parts a.values) form
+    (record { carried = sound.carried; of_form = form; mask = subst (MaskFits a.mask) (sym e) (mask_fits a.mask (length a.values) sound.fits sound.led); count = omega (arith, e, short) })
+    (are_numbers p parts h a.values)
+
+-- ---- what it denotes
 
 -- the slots of an array's layout are its optional values
-pub slots_of_values : {T : Type 0} (parts : T → List ℤ) (m : Option Bits) (xs : List T) → masked m (map num (map parts xs)) ≡ map (primitive_slot parts) (option_masked m xs)
-slots_of_values {T} parts None xs = plain_slots xs
+pub slots_of_values : {T : Type 0} (parts : T → List ℤ) (m : Option Bits) (xs : List T) → (MaskCovers m (length xs)) → masked m (map num (map parts xs)) ≡ map (primitive_slot parts) (option_masked m xs)
+slots_of_values {T} parts None xs h = plain_slots xs
   where
     plain_slots : (xs : List T) → map num (map parts xs) ≡ map (primitive_slot parts) (map Some xs)
     plain_slots [] = refl
     plain_slots (x ∷ xs) = ap (λ s. num (parts x) ∷ s) (plain_slots xs)
-slots_of_values {T} parts (Some b) xs = by b.bits xs
+slots_of_values {T} parts (Some b) xs h = by b.bits xs h
   where
     one : (bit : Bool) (x : T) → cond bit (num (parts x)) null ≡ primitive_slot parts (cond bit (Some x) None)
     one true x = refl
     one false x = refl
 
-    by : (bits : List Bool) (xs : List T) → masked_by bits (map num (map parts xs)) ≡ map (primitive_slot parts) (zip2 (λ bit x. cond bit (Some x) None) bits xs)
-    by [] xs = refl
-    by (bit ∷ bits) [] = refl
-    by (bit ∷ bits) (x ∷ xs) = ap (λ y. y ∷ masked_by bits (map num (map parts xs))) (one bit x) ∙ ap (λ s. primitive_slot parts (cond bit (Some x) None) ∷ s) (by bits xs)
-
--- ---- what a canonical layout denotes
-
-module _ (d : List ℤ) where
-  masked_back : (s : List Slot) → masked_by (map is_valid s) (map num (map (numbers_or d) s)) ≡ s
-  masked_back [] = refl
-  masked_back (null ∷ s) = ap (λ xs. null ∷ xs) (masked_back s)
-  masked_back (num zs ∷ s) = ap (λ xs. num zs ∷ xs) (masked_back s)
-
-  valid_back : (s : List Slot) → list_all is_valid s ≡ true → map num (map (numbers_or d) s) ≡ s
-  valid_back [] h = refl
-  valid_back (null ∷ s) h = cc
-  valid_back (num zs ∷ s) h = ap (λ xs. num zs ∷ xs) (valid_back s h)
-
-  by_valid : (s : List Slot) (b : Bool) → list_all is_valid s ≡ b → masked (cond b None (Some (plain (map is_valid s)))) (map num (map (numbers_or d) s)) ≡ s
-  by_valid s true e = valid_back s e
-  by_valid s false e = masked_back s
-
-  pub slots_back : (s : List Slot) → masked (mask_of s) (map num (map (numbers_or d) s)) ≡ s
-  slots_back s = by_valid s (list_all is_valid s) refl
-
-pub denote-canon : (t : TypeData) (s : List Slot) → HasSlots t s → denote (canon t s) ≡ s
-denote-canon int32 s h = slots_back (zeros primitive.Int32) s
-
--- ---- that it is well formed
-
-mask_fits : (s : List Slot) (n : ℕ) (b : Bool) → length s ≡ n → IsMasked (cond b None (Some (plain (map is_valid s)))) n
-mask_fits s n true e = record { fits = tt; led = tt }
-mask_fits s n false e = record { fits = length-map s is_valid ∙ e; led = omega arith }
-
-pub values_or : (p : PrimitiveType) (d : List ℤ) → IsNumber p d → (s : List Slot) → AllByRecursion (IsPrimitiveSlot p) s → AllByRecursion (IsNumber p) (map (numbers_or d) s)
-values_or p d z [] h = tt
-values_or p d z (null ∷ s) h = (z, values_or p d z s h.1)
-values_or p d z (num zs ∷ s) h = (h.0, values_or p d z s h.1)
-
-pub WellFormed-canon : (t : TypeData) (s : List Slot) → HasSlots t s → length s < 2 ^ 64 → WellFormed (canon t s)
-WellFormed-canon int32 s h short =
-    let d = zeros primitive.Int32 in
-    let e : length s ≡ length (map (numbers_or d) s) = sym (length-map s (numbers_or d)) in
-    record {
-      masked = mask_fits s (length (map (numbers_or d) s)) (list_all is_valid s) e;
-      values = values_or primitive.Int32 d (omega arith) s h;
-      count = omega (arith, e);
-    }
+    by : (bits : List Bool) (xs : List T) → length bits ≡ length xs → masked_by bits (map num (map parts xs)) ≡ map (primitive_slot parts) (zip2 (λ bit x. cond bit (Some x) None) bits xs)
+    by [] [] h = refl
+    by [] (x ∷ xs) h = absurd (omega (arith, h))
+    by (bit ∷ bits) [] h = refl
+    by (bit ∷ bits) (x ∷ xs) h =
+        ap (λ y. y ∷ masked_by bits (map num (map parts xs))) (one bit x) ∙ ap (λ s. primitive_slot parts (cond bit (Some x) None) ∷ s) (by bits xs (omega (arith, h)))

@@ -2,8 +2,8 @@
 ghost use Rattle.std.specs.Prelude.{◌≡◌, IfOk, MatchOption, Decides};
 ghost use Rattle.arrow_types.specs.Seen.{seen};
 ghost use Rattle.arrow_meaning.specs.Layouts.{length_of, type_of};
-ghost use Rattle.arrow_meaning.specs.WellFormed.{WellFormed, FitsHere};
-ghost use Rattle.arrow_meaning.specs.Nodes.{layout_of, primitive_layout};
+ghost use Rattle.arrow_meaning.specs.WellFormed.{WellFormed};
+ghost use Rattle.arrow_meaning.specs.Nodes.{Holds, IsSoundNode, layout_of, numbers_of, primitive_layout};
 
 use crate::{NodeNative, PrimitiveNode};
 use arrow_flat::PrimitiveArray;
@@ -27,9 +27,12 @@ pub struct ArrayRef {
 
 impl Model for ArrayRef {
     ghost use Rattle.arrow_meaning.specs.Layouts.{Layout};
+    ghost use Rattle.arrow_meaning.specs.LayoutCode.{layout_code};
     ghost use Rattle.arrow_meaning.specs.WellFormed.{WellFormed};
 
     ghost Value = { Layout };
+
+    ghost coded = { layout_code };
 
     ghost use Rattle.arrow_meaning.specs.Nodes.{layout_of};
 
@@ -39,9 +42,9 @@ impl Model for ArrayRef {
 }
 
 impl ArrayRef {
-    /// The array of this node, whose conditions hold.
+    /// The array of this node, whose conditions hold: of a flat array there are none beside its own.
     pub fn from_node(alloc: Global, node: Node) -> Mem<ArrayRef>
-        requires { FitsHere (layout_of node) }
+        requires { IsSoundNode node }
         ensures { IfOk result (λ a. a ≡ layout_of node) }
     {
         know_node(&node);
@@ -60,10 +63,17 @@ impl ArrayRef {
 
     /// The array of values of the native type, None exactly where the layout is another.
     pub fn as_primitive<T: NodeNative>(&self) -> Option<&PrimitiveArray<T>>
-        ensures { MatchOption result ⊥ (λ a. primitive_layout T.parts a.now ≡ self.now) }
+        ensures { MatchOption result (Holds T.PRIMITIVE self.now → ⊥) (λ a. primitive_layout T.parts a.now ≡ self.now) }
+    {
+        T::of_node(self.primitive_node())
+    }
+
+    /// The values of fixed width.
+    fn primitive_node(&self) -> &PrimitiveNode
+        ensures { numbers_of result.now ≡ self.now }
     {
         match self.node() {
-            Node::Primitive(array) => T::of_node(array),
+            Node::Primitive(array) => array,
         }
     }
 
@@ -104,7 +114,7 @@ impl ArrayRef {
 
 /// Tells a caller that the node's layout is well formed. It does nothing.
 fn know_node(node: &Node)
-    requires { FitsHere (layout_of node.now) }
+    requires { IsSoundNode node.now }
     ensures { WellFormed (layout_of node.now) }
 {
     match node {

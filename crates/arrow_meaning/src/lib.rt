@@ -4,9 +4,8 @@
 mod array;
 pub mod laws;
 mod primitive;
+#[cfg(test)]
+mod tests;
 
 pub use array::{ArrayRef, Node};
 pub use primitive::{NodeNative, PrimitiveNode};
-
-#[cfg(test)]
-mod tests;

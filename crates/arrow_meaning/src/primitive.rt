@@ -1,12 +1,9 @@
 //! Primitive arrays of any native type, as one kind of node.
-ghost use Rattle.std.specs.Prelude.{◌≡◌, ◌<◌, ◌^◌, length as count, map, MatchOption};
-ghost use Rattle.arrow_flat.specs.Primitives.{IsMasked};
-ghost use Rattle.arrow_meaning.specs.Layouts.{Layout, length_of, type_of};
-ghost use Rattle.arrow_meaning.specs.Nodes.{numbers_of, primitive_layout};
-ghost use Rattle.arrow_meaning.specs.WellFormed.{WellFormed, AreValues};
+ghost use Rattle.std.specs.Prelude.{◌≡◌, map, length as count, MatchOption};
 ghost use Rattle.arrow_types.specs.Seen.{seen};
-ghost use Rattle.std.specs.List.{AllByRecursion};
-ghost use Rattle.arrow_flat.specs.Numbers.{IsNumber};
+ghost use Rattle.arrow_meaning.specs.Layouts.{length_of, type_of, primitives};
+ghost use Rattle.arrow_meaning.specs.Nodes.{Holds, numbers_of, primitive_layout};
+ghost use Rattle.arrow_meaning.specs.WellFormed.{WellFormed};
 
 use arrow_flat::{NativeType, PrimitiveArray};
 use arrow_types::ArrowDataType;
@@ -20,9 +17,10 @@ pub enum PrimitiveNode {
 
 /// A native type whose arrays are a variant of `PrimitiveNode`.
 pub trait NodeNative: NativeType {
-    /// The array, where the node is of this type.
+    /// The array, None exactly where the node holds values of another type.
     fn of_node(node: &PrimitiveNode) -> Option<&PrimitiveArray<Self>>
-        ensures { MatchOption result ⊥ (λ a. primitive_layout Self.parts a.now ≡ numbers_of node.now) };
+        ensures { MatchOption result (Holds Self.PRIMITIVE (numbers_of node.now) → ⊥)
+            (λ a. primitive_layout Self.parts a.now ≡ numbers_of node.now) };
 }
 
 impl NodeNative for i32 {
@@ -57,9 +55,7 @@ impl PrimitiveNode {
 /// The count of an array's slots, with what every array keeps.
 fn sound_len<T: NativeType>(array: &PrimitiveArray<T>) -> usize
     ensures value { result ≡ count array.now.values }
-    ensures masked { IsMasked array.now.mask (count (map T.parts array.now.values)) }
-    ensures values { AllByRecursion (IsNumber T.PRIMITIVE) (map T.parts array.now.values) }
-    ensures short { count (map T.parts array.now.values) < 2 ^ 64 }
+    ensures sound { WellFormed (primitive_layout T.parts array.now) }
 {
     array.dtype();
     array.len()

@@ -1,3 +1,16 @@
-pub mod TypeData
+pub mod Capacity
+pub mod Carried
+pub mod Code
+pub mod Depth
+pub mod Dimension
+pub mod Metadata
+pub mod Reshape
+pub mod Schema
 pub mod Seen
+pub mod SeenAt
+pub mod Select
+pub mod TypeData
+pub mod TypeEq
+pub mod TypeExact
+pub mod TypeWrites
 pub mod Types

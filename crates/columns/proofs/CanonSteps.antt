@@ -1,22 +1,22 @@
 -- The canonical layout of an array's slots, by its optional values.
-use Rattle.std.proofs.Common.{◌≡◌, List, [], ◌∷◌, refl, ap, sym, ◌∙◌, Option, Some, None, w32}
+use Rattle.std.proofs.Common.{◌≡◌, List, [], ◌∷◌, length, refl, ap, sym, ◌∙◌, Option, Some, None, w32}
 use Rattle.std.specs.Prelude.{ℤ, pos, map, Bool, cond, is_some, ◌&&◌}
 use Rattle.std.specs.List.{list_all}
 use Rattle.arrow_buffers.specs.Bits.{Bits, plain}
-use Rattle.arrow_types.specs.declared.datatype.ArrowDataType.{ArrowDataType}
-use Rattle.arrow_types.specs.declared.datatype.ArrowDataType.TheVariants.{Int32}
 use Rattle.arrow_types.specs.Seen.{seen}
-use Rattle.arrow_types.specs.TypeData.{int32}
 use Rattle.arrow_types.specs.declared.datatype.PrimitiveType.TheVariants as primitive
-use Rattle.arrow_flat.specs.Numbers.{zeros, signed}
-use Rattle.arrow_flat.specs.NumbersFit.{signed32-zero}
-use Rattle.arrow_flat.specs.Primitives.{Primitives, masked}
-use Rattle.arrow_flat.specs.Slots.{Slot, is_valid, numbers_or}
+use Rattle.arrow_flat.specs.Natives.{signed}
+use Rattle.arrow_flat.specs.NativesFit.{zero_32}
+use Rattle.arrow_flat.specs.Numbers.{zeros}
+use Rattle.arrow_flat.specs.Primitives.{Primitives, IsSound, masked}
+use Rattle.arrow_flat.specs.Slots.{Slot, is_valid}
 use Rattle.arrow_meaning.specs.Layouts.{primitives, type_of}
 use Rattle.arrow_meaning.specs.Denote.{denote}
-use Rattle.arrow_meaning.specs.Canon.{mask_of, canon_primitives, canon}
+use Rattle.arrow_meaning.specs.Canon.{mask_of, numbers_or, canon}
+use Rattle.arrow_meaning.specs.Forms.{primitives_of}
 use Rattle.arrow_meaning.specs.Nodes.{primitive_slot, primitive_layout}
-use Rattle.arrow_meaning.proofs.Primitives.{slots_of_values}
+use Rattle.arrow_meaning.proofs.ByForm.{canon-form}
+use Rattle.arrow_meaning.proofs.Primitives.{primitive_form, slots_of_values}
 use Rattle.columns.specs.Steps.{mask_of_slots, values_of_slots, canonical_parts}
 
 module _ {T : Type 0} (parts : T → List ℤ) where
@@ -46,13 +46,13 @@ module _ {T : Type 0} (parts : T → List ℤ) where
   values_same zero (Some x ∷ s) = ap (λ xs. parts x ∷ xs) (values_same zero s)
 
 -- of 32-bit integers
-by_type : (t : ArrowDataType) (m : Option Bits) (xs : List ℤ) → canon (seen t) (denote (primitives (seen t) m (map (signed w32) xs)))
-    ≡ primitives (seen t) (mask_of_slots (masked m xs)) (map (signed w32) (values_of_slots (pos 0) (masked m xs)))
-by_type Int32 m xs =
-    ap (λ s. canon_primitives int32 primitive.Int32 s) (slots_of_values (signed w32) m xs)
-    ∙ ap (λ b. primitives int32 b (map (numbers_or (zeros primitive.Int32)) (map (primitive_slot (signed w32)) (masked m xs)))) (mask_same (signed w32) (masked m xs))
-    ∙ ap (λ d. primitives int32 (mask_of_slots (masked m xs)) (map (numbers_or d) (map (primitive_slot (signed w32)) (masked m xs)))) (sym signed32-zero)
-    ∙ ap (primitives int32 (mask_of_slots (masked m xs))) (values_same (signed w32) (pos 0) (masked m xs))
-
-pub canonical_int32 : (a : Primitives ℤ) → canon (type_of (primitive_layout (signed w32) a)) (denote (primitive_layout (signed w32) a)) ≡ primitive_layout (signed w32) (canonical_parts (pos 0) a)
-canonical_int32 a = by_type a.dtype a.mask a.values
+pub canonical_int32 : (a : Primitives ℤ) → IsSound primitive.Int32 a.dtype a.mask (length a.values)
+    → canon (type_of (primitive_layout (signed w32) a)) (denote (primitive_layout (signed w32) a)) ≡ primitive_layout (signed w32) (canonical_parts (pos 0) a)
+canonical_int32 a sound =
+    let t = seen a.dtype in
+    let s = masked a.mask a.values in
+    ap (λ l. canon t l) (slots_of_values (signed w32) a.mask a.values sound.fits)
+    ∙ canon-form t (primitives_of primitive.Int32) (map (primitive_slot (signed w32)) s) (primitive_form t primitive.Int32 sound.stored)
+    ∙ ap (λ b. primitives t b (map (numbers_or (zeros primitive.Int32)) (map (primitive_slot (signed w32)) s))) (mask_same (signed w32) s)
+    ∙ ap (λ d. primitives t (mask_of_slots s) (map (numbers_or d) (map (primitive_slot (signed w32)) s))) (sym zero_32)
+    ∙ ap (primitives t (mask_of_slots s)) (values_same (signed w32) (pos 0) s)

@@ -1,5 +1,5 @@
 -- A column's text is read back as the column.
-use Rattle.std.proofs.Common.{◌≡◌, ◌≤◌, ◌<◌, ◌^◌, max, ℕ, List, [], ◌∷◌, refl, ap, sym, ◌∙◌, Option, Some, None, true, false, arith, lt-ltb, le-leb}
+use Rattle.std.proofs.Common.{◌≡◌, ◌≤◌, ◌<◌, ◌^◌, max, ℕ, List, [], ◌∷◌, refl, ap, sym, ◌∙◌, subst, Option, Some, None, true, false, arith, lt-ltb, le-leb}
 use Rattle.std.specs.Prelude.{ℤ, pos, negsuc, map, Bool, IsUtf8, codes, option_map, option_and_then}
 use Rattle.std.specs.List.{AllByRecursion}
 use Rattle.std.proofs.lemmas.Str.{IsUtf8-append, IsUtf8-from_ascii, IsUtf8-nil}
@@ -15,16 +15,14 @@ use Rattle.serde_json.specs.View.{items_of}
 use Rattle.serde_json.specs.Written.{number_text, outline, items_outline}
 use Rattle.serde_json.proofs.Numbers.{number_of-decimal, number_of-negative}
 use Rattle.arrow_buffers.specs.Bits.{Bits}
-use Rattle.arrow_types.specs.TypeData.{int32}
-use Rattle.arrow_types.specs.declared.datatype.PrimitiveType.{PrimitiveType}
+use Rattle.arrow_types.specs.TypeData.{TypeData}
+use Rattle.arrow_types.specs.TypeData as T
 use Rattle.arrow_types.specs.declared.datatype.PrimitiveType.TheVariants as primitive
-use Rattle.arrow_flat.specs.Numbers.{IsSigned, IsNumber}
-use Rattle.arrow_meaning.specs.Layouts.{Layout, primitives}
-use Rattle.arrow_types.specs.Types.{physical_of}
-use Rattle.arrow_meaning.specs.WellFormed.{AreValues}
+use Rattle.arrow_flat.specs.Numbers.{InRange, signed_range, IsNumber}
+use Rattle.arrow_meaning.specs.Layouts.{Layout, nulls, booleans, primitives, binaries, fixed_size_binaries, views, lists, fixed_size_lists, structs, sparse_unions, dense_unions, dictionaries}
 use Rattle.columns.specs.Json.{traverse, bit_of, bit_char, mask_in, mask_value, number_in, number_value, numbers_in, numbers_value, primitives_in, type_in, column_of, column_value, column_text}
 use Rattle.columns.specs.Job.{reading}
-use Rattle.columns.specs.Laws.{IsUnled, IsPlain}
+use Rattle.columns.specs.Laws.{IsUnled, IsInt32s, HasNoLead}
 use Rattle.columns.proofs.ReadBack.{line_back}
 use Rattle.columns.proofs.Readings.{reading_some}
 use Rattle.columns.proofs.Sound.{IsSound, AreSound, outline_back}
@@ -33,15 +31,15 @@ use Rattle.columns.proofs.Walks.{list_of-items_of}
 
 -- ---- numbers
 
-integer_back : (z : ℤ) → IsSigned 31 z → number_of (number_text (of_integer z)) ≡ Some (of_integer z)
+integer_back : (z : ℤ) → InRange (signed_range 31) z → number_of (number_text (of_integer z)) ≡ Some (of_integer z)
 integer_back (pos n) h = number_of-decimal n (omega (arith, h))
 integer_back (negsuc n) h = number_of-negative n (omega (arith, h))
 
-integer_is : (z : ℤ) → IsSigned 31 z → IsNumberText (number_text (of_integer z))
+integer_is : (z : ℤ) → InRange (signed_range 31) z → IsNumberText (number_text (of_integer z))
 integer_is (pos n) h = IsNumber-decimal n (omega (arith, h))
 integer_is (negsuc n) h = IsNumber-signed_decimal (negsuc n) (omega (arith, h))
 
-integer_utf8 : (z : ℤ) → IsSigned 31 z → IsUtf8 (number_text (of_integer z))
+integer_utf8 : (z : ℤ) → InRange (signed_range 31) z → IsUtf8 (number_text (of_integer z))
 integer_utf8 (pos n) h = IsUtf8-from_ascii _ (IsAscii-decimal n (omega (arith, h)))
 integer_utf8 (negsuc n) h = IsUtf8-from_ascii _ (IsAscii-signed (negsuc n) (omega (arith, h)))
 
@@ -58,21 +56,24 @@ pub record AreWritten (ds : Items) : Type 0 where
   pub utf8 : ItemsHaveUtf8 ds
   pub flat : items_depth ds ≡ 0
 
-number_written : (p : PrimitiveType) (zs : List ℤ) → IsNumber p zs → IsWritten (number_value p zs)
-number_written primitive.Int32 [] h = absurd h
-number_written primitive.Int32 (z ∷ []) h = record { sound = integer_back z h; numbers = integer_is z h; utf8 = integer_utf8 z h; flat = refl }
-number_written primitive.Int32 (z ∷ y ∷ zs) h = absurd h
+abbrev numbers32 : List (List ℤ) → Items
+numbers32 xs = items_of (map (number_value primitive.Int32) xs)
 
-numbers_written : (p : PrimitiveType) (xs : List (List ℤ)) → AllByRecursion (IsNumber p) xs → AreWritten (items_of (map (number_value p) xs))
-numbers_written p [] h = record { sound = tt; numbers = tt; utf8 = tt; flat = refl }
-numbers_written p (zs ∷ xs) h =
-    let first = number_written p zs h.0 in
-    let rest = numbers_written p xs h.1 in
+number_written : (zs : List ℤ) → IsNumber primitive.Int32 zs → IsWritten (number_value primitive.Int32 zs)
+number_written [] h = absurd h
+number_written (z ∷ []) h = record { sound = integer_back z h.0; numbers = integer_is z h.0; utf8 = integer_utf8 z h.0; flat = refl }
+number_written (z ∷ y ∷ zs) h = absurd h.1
+
+numbers_written : (xs : List (List ℤ)) → AllByRecursion (IsNumber primitive.Int32) xs → AreWritten (numbers32 xs)
+numbers_written [] h = record { sound = tt; numbers = tt; utf8 = tt; flat = refl }
+numbers_written (zs ∷ xs) h =
+    let first = number_written zs h.0 in
+    let rest = numbers_written xs h.1 in
     record {
       sound = (first.sound, rest.sound);
       numbers = (first.numbers, rest.numbers);
       utf8 = (first.utf8, rest.utf8);
-      flat = ap (λ n. max n (items_depth (items_of (map (number_value p) xs)))) first.flat ∙ ap (max 0) rest.flat;
+      flat = ap (λ n. max n (items_depth (numbers32 xs))) first.flat ∙ ap (max 0) rest.flat;
     }
 
 -- ---- masks
@@ -88,40 +89,39 @@ mask_written (Some b) = record { sound = tt; numbers = tt; utf8 = bits_utf8 b.bi
 
 -- ---- the whole value
 
--- each value is one of the type's
-abbrev pub HasValues : Layout → Type 0
-HasValues (primitives t m xs) = AreValues (physical_of t) xs
-
 ascii : (s : List ℕ) → are_ascii s ≡ true → IsUtf8 s
 ascii s e = IsUtf8-are_ascii s e
 
-column_sound : (l : Layout) → HasValues l → IsSound (column_value l)
-column_sound (primitives int32 m xs) h =
-    (tt, (tt, (mask_written m).sound, ((refl, tt), (numbers_written primitive.Int32 xs h).sound, tt)), ((refl, tt), tt, tt))
+module _ (m : Option Bits) (xs : List (List ℤ)) (h : AllByRecursion (IsNumber primitive.Int32) xs) where
+  abbrev value : Data
+  value = column_value (primitives T.int32 m xs)
 
-column_numbers : (l : Layout) → HasValues l → tree.HasNumbers (outline (column_value l))
-column_numbers (primitives int32 m xs) h = (((mask_written m).numbers, ((numbers_written primitive.Int32 xs h).numbers, tt)), (tt, tt))
+  column_sound : IsSound value
+  column_sound = (tt, (tt, (mask_written m).sound, ((refl, tt), (numbers_written xs h).sound, tt)), ((refl, tt), tt, tt))
 
-column_utf8 : (l : Layout) → HasValues l → HasUtf8 (column_value l)
-column_utf8 (primitives int32 m xs) h = (
-  ascii (codes "data") refl,
-  (ascii (codes "mask") refl, (mask_written m).utf8, (ascii (codes "values") refl, (numbers_written primitive.Int32 xs h).utf8, tt)),
-  (ascii (codes "type") refl, ascii (codes "int32") refl, tt),
-)
+  column_numbers : tree.HasNumbers (outline value)
+  column_numbers = (((mask_written m).numbers, ((numbers_written xs h).numbers, tt)), (tt, tt))
 
-column_depth : (l : Layout) → HasValues l → depth (column_value l) ≤ 127
-column_depth (primitives int32 m xs) h = omega (arith, (mask_written m).flat, (numbers_written primitive.Int32 xs h).flat)
+  column_utf8 : HasUtf8 value
+  column_utf8 = (
+    ascii (codes "data") refl,
+    (ascii (codes "mask") refl, (mask_written m).utf8, (ascii (codes "values") refl, (numbers_written xs h).utf8, tt)),
+    (ascii (codes "type") refl, ascii (codes "int32") refl, tt),
+  )
 
-line_reads : (l : Layout) → HasValues l → read (column_text l) ≡ Some (column_value l)
-unfolding column_text
-line_reads l h = line_back (column_value l) (column_numbers l h) (column_depth l h) (outline_back (column_value l) (column_sound l h))
+  column_depth : depth value ≤ 127
+  column_depth = omega (arith, (mask_written m).flat, (numbers_written xs h).flat)
 
-line_utf8 : (l : Layout) → HasValues l → IsUtf8 (column_text l)
-unfolding column_text
-line_utf8 l h = IsUtf8-append _ (10 ∷ []) (text_utf8 (column_value l) (column_utf8 l h)) (IsUtf8-are_ascii (10 ∷ []) refl)
+  line_reads : read (column_text (primitives T.int32 m xs)) ≡ Some value
+  unfolding column_text
+  line_reads = line_back value column_numbers column_depth (outline_back value column_sound)
 
-pub text_reading : (l : Layout) → HasValues l → reading (column_text l) ≡ Some (column_value l)
-text_reading l h = reading_some (column_text l) (column_value l) (line_utf8 l h) (line_reads l h)
+  line_utf8 : IsUtf8 (column_text (primitives T.int32 m xs))
+  unfolding column_text
+  line_utf8 = IsUtf8-append _ (10 ∷ []) (text_utf8 value column_utf8) (IsUtf8-are_ascii (10 ∷ []) refl)
+
+  reading_by_parts : reading (column_text (primitives T.int32 m xs)) ≡ Some value
+  reading_by_parts = reading_some (column_text (primitives T.int32 m xs)) value line_utf8 line_reads
 
 -- ---- the column again
 
@@ -138,26 +138,60 @@ unfolding mask_in
 mask_again None h = refl
 mask_again (Some b) h = ap (option_map (λ bits. Some (record { bits = bits; lead = 0 }))) (bits_again b.bits) ∙ with_lead b h
 
-number_again : (p : PrimitiveType) (zs : List ℤ) → IsNumber p zs → number_in p (number_value p zs) ≡ Some zs
+number_again : (zs : List ℤ) → IsNumber primitive.Int32 zs → number_in primitive.Int32 (number_value primitive.Int32 zs) ≡ Some zs
 unfolding number_in
-number_again primitive.Int32 [] h = absurd h
-number_again primitive.Int32 (pos n ∷ []) h =
-    let wide : n < 2 ^ 63 = omega (arith, h) in let top : n ≤ 2147483647 = omega (arith, h) in rw (lt-ltb _ _ wide) (rw (le-leb _ _ top) refl)
-number_again primitive.Int32 (negsuc n ∷ []) h = let top : n ≤ 2147483647 = omega (arith, h) in rw (le-leb _ _ top) refl
-number_again primitive.Int32 (z ∷ y ∷ zs) h = absurd h
+number_again [] h = absurd h
+number_again (pos n ∷ []) h =
+    let small = h.0 in let wide : n < 2 ^ 63 = omega (arith, small) in let top : n ≤ 2147483647 = omega (arith, small) in rw (lt-ltb _ _ wide) (rw (le-leb _ _ top) refl)
+number_again (negsuc n ∷ []) h = let small = h.0 in let top : n ≤ 2147483647 = omega (arith, small) in rw (le-leb _ _ top) refl
+number_again (z ∷ y ∷ zs) h = absurd h.1
 
-list_again : (p : PrimitiveType) (xs : List (List ℤ)) → AllByRecursion (IsNumber p) xs → traverse (number_in p) (map (number_value p) xs) ≡ Some xs
-list_again p [] h = refl
-list_again p (zs ∷ xs) h =
-    ap (option_and_then (λ y. option_map (λ ys. y ∷ ys) (traverse (number_in p) (map (number_value p) xs)))) (number_again p zs h.0)
-    ∙ ap (option_map (λ ys. zs ∷ ys)) (list_again p xs h.1)
+list_again : (xs : List (List ℤ)) → AllByRecursion (IsNumber primitive.Int32) xs → traverse (number_in primitive.Int32) (map (number_value primitive.Int32) xs) ≡ Some xs
+list_again [] h = refl
+list_again (zs ∷ xs) h =
+    ap (option_and_then (λ y. option_map (λ ys. y ∷ ys) (traverse (number_in primitive.Int32) (map (number_value primitive.Int32) xs)))) (number_again zs h.0)
+    ∙ ap (option_map (λ ys. zs ∷ ys)) (list_again xs h.1)
 
-numbers_again : (p : PrimitiveType) (xs : List (List ℤ)) → AllByRecursion (IsNumber p) xs → numbers_in p (numbers_value p xs) ≡ Some xs
+numbers_again : (xs : List (List ℤ)) → AllByRecursion (IsNumber primitive.Int32) xs → numbers_in primitive.Int32 (numbers_value primitive.Int32 xs) ≡ Some xs
 unfolding numbers_in
-numbers_again p xs h = ap (traverse (number_in p)) (list_of-items_of (map (number_value p) xs)) ∙ list_again p xs h
+numbers_again xs h = ap (traverse (number_in primitive.Int32)) (list_of-items_of (map (number_value primitive.Int32) xs)) ∙ list_again xs h
 
-pub column_again : (l : Layout) → HasValues l → IsPlain l → column_of (column_value l) ≡ Some l
+again_by_parts : (m : Option Bits) (xs : List (List ℤ)) → AllByRecursion (IsNumber primitive.Int32) xs → IsUnled m → column_of (column_value (primitives T.int32 m xs)) ≡ Some (primitives T.int32 m xs)
 unfolding column_of primitives_in type_in
-column_again (primitives int32 m xs) h plain =
-    ap (λ o. option_and_then (λ k. option_map (primitives int32 k) (numbers_in primitive.Int32 (numbers_value primitive.Int32 xs))) o) (mask_again m plain)
-    ∙ ap (option_map (primitives int32 m)) (numbers_again primitive.Int32 xs h)
+again_by_parts m xs h plain =
+    ap (λ o. option_and_then (λ k. option_map (primitives T.int32 k) (numbers_in primitive.Int32 (numbers_value primitive.Int32 xs))) o) (mask_again m plain)
+    ∙ ap (option_map (primitives T.int32 m)) (numbers_again xs h)
+
+-- ---- of layouts
+
+pub text_reading : (l : Layout) → IsInt32s l → reading (column_text l) ≡ Some (column_value l)
+text_reading (primitives t m xs) h =
+    let P : TypeData → Type 0 = λ u. reading (column_text (primitives u m xs)) ≡ Some (column_value (primitives u m xs)) in
+    subst P (sym h.0) (reading_by_parts m xs h.1)
+text_reading (nulls t n) h = absurd h
+text_reading (booleans t m vs) h = absurd h
+text_reading (binaries t m os bs) h = absurd h
+text_reading (fixed_size_binaries t m k n bs) h = absurd h
+text_reading (views t m vs buffers) h = absurd h
+text_reading (lists t m os l) h = absurd h
+text_reading (fixed_size_lists t m k n l) h = absurd h
+text_reading (structs t m n ls) h = absurd h
+text_reading (sparse_unions t o ts ls) h = absurd h
+text_reading (dense_unions t o ts os ls) h = absurd h
+text_reading (dictionaries t u m ks l) h = absurd h
+
+pub column_again : (l : Layout) → IsInt32s l → HasNoLead l → column_of (column_value l) ≡ Some l
+column_again (primitives t m xs) h plain =
+    let P : TypeData → Type 0 = λ u. column_of (column_value (primitives u m xs)) ≡ Some (primitives u m xs) in
+    subst P (sym h.0) (again_by_parts m xs h.1 plain)
+column_again (nulls t n) h p = absurd h
+column_again (booleans t m vs) h p = absurd h
+column_again (binaries t m os bs) h p = absurd h
+column_again (fixed_size_binaries t m k n bs) h p = absurd h
+column_again (views t m vs buffers) h p = absurd h
+column_again (lists t m os l) h p = absurd h
+column_again (fixed_size_lists t m k n l) h p = absurd h
+column_again (structs t m n ls) h p = absurd h
+column_again (sparse_unions t o ts ls) h p = absurd h
+column_again (dense_unions t o ts os ls) h p = absurd h
+column_again (dictionaries t u m ks l) h p = absurd h

@@ -17,34 +17,35 @@ limit = 16777216
 unfoldable pub reading : List ℕ → Option Data
 reading bytes = if is_utf8 bytes then read bytes else None
 
+-- the bytes are no more than a job may have, and are this value
+pub record IsRead (bytes : List ℕ) (value : Data) : Type 0 where
+  pub short : length bytes ≤ limit
+  pub is_read : reading bytes ≡ Some value
+
 -- the bytes are one whole job of this column
 pub record IsJob (bytes : List ℕ) (c : Layout) : Type 0 where
-  pub short : length bytes ≤ limit
   pub value : Data
-  pub is_read : reading bytes ≡ Some value
+  pub read_as : IsRead bytes value
   pub is_column : column_of value ≡ Some c
   pub sound : WellFormed c
 
-abbrev pub IsTooLong : List ℕ → Type 0
-IsTooLong bytes = limit < length bytes
+-- What bytes are: a job, or no job for one of these causes.
+pub data Verdict : Type 0 where
+  too_long : Verdict
+  bad_text : Verdict
+  bad_job : Verdict
+  bad_layout : Verdict
+  a_job : Verdict
 
-abbrev pub IsBadText : List ℕ → Type 0
-IsBadText bytes = reading bytes ≡ None
-
+abbrev pub IsOf : Verdict → List ℕ → Type 0
+IsOf too_long bytes = limit < length bytes
+-- no text of a JSON value
+IsOf bad_text bytes = (length bytes ≤ limit) × (reading bytes ≡ None)
 -- a value, but no column of the grammar
-abbrev pub IsBadValue : List ℕ → Type 0
-IsBadValue bytes = (v : Data) × (reading bytes ≡ Some v) × (column_of v ≡ None)
-
+IsOf bad_job bytes = (v : Data) × IsRead bytes v × (column_of v ≡ None)
 -- a column of the grammar that isn't well formed
-abbrev pub IsBadLayout : List ℕ → Type 0
-IsBadLayout bytes = (v : Data) × (c : Layout) × (reading bytes ≡ Some v) × (column_of v ≡ Some c) × (WellFormed c → ⊥)
-
--- why bytes are no job
-pub data IsNoJob (bytes : List ℕ) : Type 0 where
-  too_long : IsTooLong bytes → IsNoJob bytes
-  bad_text : IsBadText bytes → IsNoJob bytes
-  bad_value : IsBadValue bytes → IsNoJob bytes
-  bad_layout : IsBadLayout bytes → IsNoJob bytes
+IsOf bad_layout bytes = (v : Data) × (c : Layout) × IsRead bytes v × (column_of v ≡ Some c) × (WellFormed c → ⊥)
+IsOf a_job bytes = (c : Layout) × IsJob bytes c
 
 -- the text of the canonical layout of a column's slots
 abbrev pub canon_text : Layout → List ℕ

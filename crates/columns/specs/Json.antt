@@ -7,12 +7,11 @@ use Rattle.serde_json.specs.Events.{members_len}
 use Rattle.serde_json.specs.View.{items_of}
 use Rattle.serde_json.specs.Written.{compact_text}
 use Rattle.arrow_buffers.specs.Bits.{Bits, plain}
-use Rattle.arrow_types.specs.TypeData.{TypeData, int32}
-use Rattle.arrow_types.specs.Types.{physical_of}
-use Rattle.arrow_types.specs.declared.datatype.PhysicalType.{PhysicalType}
-use Rattle.arrow_types.specs.declared.datatype.PhysicalType.TheVariants as physical
+use Rattle.arrow_types.specs.TypeData.{TypeData}
+use Rattle.arrow_types.specs.TypeData as T
 use Rattle.arrow_types.specs.declared.datatype.PrimitiveType.{PrimitiveType}
 use Rattle.arrow_types.specs.declared.datatype.PrimitiveType.TheVariants as primitive
+use Rattle.arrow_meaning.specs.Forms.{Form, primitives_of, form_of, primitive_by}
 use Rattle.arrow_meaning.specs.Layouts.{Layout, primitives, type_of}
 
 -- ---- from a value
@@ -46,6 +45,7 @@ in_int32 z = if int_le (negsuc 2147483647) z && int_le z (pos 2147483647) then S
 -- the numbers of a value of the physical type
 unfoldable pub number_in : PrimitiveType → Data → Option (List ℤ)
 number_in primitive.Int32 d = option_and_then in_int32 (option_and_then as_i64 (as_number d))
+number_in _ d = None
 
 unfoldable pub numbers_in : PrimitiveType → Data → Option (List (List ℤ))
 numbers_in p d = option_and_then (λ ds. traverse (number_in p) (list_of ds)) (as_array d)
@@ -56,12 +56,16 @@ primitives_from t p d = option_and_then (λ m. option_map (primitives t m) (numb
 unfoldable pub primitives_in : TypeData → PrimitiveType → Data → Option Layout
 primitives_in t p d = option_and_then (primitives_from t p) (two_members (codes "mask") (codes "values") d)
 
--- the data of a column of the type
+abbrev pub data_by : Form → TypeData → Data → Option Layout
+data_by (primitives_of primitive.Int32) t d = primitives_in t primitive.Int32 d
+data_by _ t d = None
+
+-- the data of a column of the type, where it is one that is stored as 32-bit integers
 abbrev pub data_in : TypeData → Data → Option Layout
-data_in int32 d = primitives_in int32 primitive.Int32 d
+data_in t d = data_by (form_of t) t d
 
 unfoldable pub type_in : Data → Option TypeData
-type_in d = if is_text (codes "int32") d then Some int32 else None
+type_in d = if is_text (codes "int32") d then Some T.int32 else None
 
 abbrev pub column_from : Data × Data → Option Layout
 column_from d = option_and_then (λ t. data_in t d.0) (type_in d.1)
@@ -85,20 +89,22 @@ first_number (z ∷ zs) = z
 
 abbrev pub number_value : PrimitiveType → List ℤ → Data
 number_value primitive.Int32 zs = number (of_integer (first_number zs))
+number_value _ zs = null
 
 abbrev pub numbers_value : PrimitiveType → List (List ℤ) → Data
 numbers_value p xs = array (items_of (map (number_value p) xs))
 
-abbrev pub primitives_value : Option PhysicalType → Option Bits → List (List ℤ) → Data
-primitives_value None m xs = null
-primitives_value (Some (physical.Primitive p)) m xs =
+abbrev pub primitives_value : PrimitiveType → Option Bits → List (List ℤ) → Data
+primitives_value p m xs =
     object (member (codes "mask") (mask_value m) (member (codes "values") (numbers_value p xs) no_members))
 
 abbrev pub data_value : Layout → Data
-data_value (primitives t m xs) = primitives_value (physical_of t) m xs
+data_value (primitives t m xs) = primitives_value (primitive_by (form_of t)) m xs
+data_value _ = null
 
 abbrev pub type_value : TypeData → Data
-type_value int32 = string (codes "int32")
+type_value T.int32 = string (codes "int32")
+type_value _ = null
 
 abbrev pub column_value : Layout → Data
 column_value l = object (member (codes "data") (data_value l) (member (codes "type") (type_value (type_of l)) no_members))

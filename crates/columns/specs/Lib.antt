@@ -1,8 +1,10 @@
 pub mod Causes
-pub mod Outcomes
-pub mod Memory
-pub mod Json
-pub mod Parts
 pub mod Job
-pub mod Steps
+pub mod Json
 pub mod Laws
+pub mod Memory
+pub mod Outcomes
+pub mod Parts
+pub mod Plain
+pub mod Refusals
+pub mod Steps

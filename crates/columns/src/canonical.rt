@@ -1,11 +1,17 @@
 //! The canonical layout of a column's slots.
-ghost use Rattle.std.specs.Prelude.{◌≡◌, map, unwrap_or, length as count, IfOk};
+ghost use Rattle.std.specs.Prelude.{◌≡◌, map, unwrap_or, length as count, Some, IfOk};
 ghost use Rattle.std.specs.List.{list_all};
 ghost use Rattle.arrow_buffers.specs.Bits.{Bits};
 ghost use Rattle.arrow_flat.specs.Primitives.{Primitives, MaskFits, slots};
+ghost use Rattle.arrow_types.specs.Seen.{seen};
+ghost use Rattle.arrow_types.specs.Types.{physical_of};
+ghost use Rattle.arrow_types.specs.declared.datatype.PhysicalType.TheVariants as physical;
 ghost use Rattle.arrow_meaning.specs.Layouts.{type_of};
 ghost use Rattle.arrow_meaning.specs.Denote.{denote};
 ghost use Rattle.arrow_meaning.specs.Canon.{canon};
+ghost use Rattle.arrow_meaning.specs.Nodes.{primitive_layout};
+ghost use Rattle.arrow_flat.specs.Natives.{signed};
+ghost use Rattle.std.specs.Int.{w32};
 ghost use Rattle.columns.specs.Steps.{mask_of_slots, values_of_slots, canonical_parts};
 
 use arrow_buffers::{Bitmap, Buffer};
@@ -52,7 +58,8 @@ fn fitted<T: NativeType>(
     values: Buffer<T>,
     validity: Option<Bitmap>,
 ) -> PrimitiveArray<T>
-    requires { MaskFits validity (count values) }
+    requires fits { MaskFits validity (count values) }
+    requires stored { physical_of (seen dtype) ≡ Some (physical.Primitive T.PRIMITIVE) }
     ensures { result ≡ record { dtype = dtype; values = values; mask = validity } }
 {
     match PrimitiveArray::try_new(dtype, values, validity) {
@@ -75,15 +82,21 @@ fn canonical_primitive<T: NativeType>(
     Ok(fitted(dtype, values, validity))
 }
 
+/// The 32-bit integers of an array, which today is the one layout that there is.
+pub fn int32s(array: &ArrayRef) -> &PrimitiveArray<i32>
+    ensures { primitive_layout (signed w32) result.now ≡ array.now }
+{
+    match array.node() {
+        Node::Primitive(PrimitiveNode::Int32(numbers)) => numbers,
+    }
+}
+
 /// The canonical layout of the slots that an array denotes.
 pub fn canonical(alloc: Global, array: &ArrayRef) -> Mem<ArrayRef>
     ensures { IfOk result (λ a. a ≡ canon (type_of array.now) (denote array.now)) }
 {
-    match array.as_primitive::<i32>() {
-        Some(numbers) => {
-            let numbers = canonical_primitive(alloc, numbers)?;
-            ArrayRef::from_node(alloc, Node::Primitive(PrimitiveNode::Int32(numbers)))
-        }
-        None => unreachable!(),
-    }
+    let numbers = int32s(array);
+    numbers.dtype();
+    let canonical = canonical_primitive(alloc, numbers)?;
+    ArrayRef::from_node(alloc, Node::Primitive(PrimitiveNode::Int32(canonical)))
 }

@@ -1,18 +1,22 @@
 //! The top call: the words, the bytes read, and the bytes written.
-ghost use Rattle.std.specs.Prelude.{◌≡◌, ◌≢◌, ◌↔◌, ◌≤◌, ◌⊎◌, List, [], ◌∷◌, map, length, codes, string_bytes, Some, None, IsTrue, IfOk, IfSome, IsErrOf};
+ghost use Rattle.std.specs.Prelude.{◌≡◌, ◌≢◌, ◌↔◌, ◌≤◌, ◌⊎◌, List, [], ◌∷◌, map, length, codes, string_bytes, ℕ, Some, None, IsTrue, IfOk, IfErr, IsSome, IfSome, IsErrOf};
 ghost use Rattle.std.specs.Io.KnownBytes.{Appends};
 ghost use Rattle.serde_json.specs.View.{view};
 ghost use Rattle.arrow_meaning.specs.Layouts.{Layout};
 ghost use Rattle.columns.specs.Causes.{Rose, AppendsFront};
-ghost use Rattle.columns.specs.Job.{limit, reading, IsJob, IsNoJob, canon_text};
+ghost use Rattle.columns.specs.Job.{limit, reading, IsJob, IsOf, canon_text};
+ghost use Rattle.columns.specs.Outcomes.{verdict_of};
+ghost use Rattle.columns.specs.Refusals.{refusal_of};
+ghost use Rattle.columns.specs.declared.job.Refusal.TheVariants.{OutOfMemory};
 
 use crate::canonical::canonical;
 use crate::outcome::Outcome;
 use crate::outside::{ReadError, Sink, Source, read_all, write_all};
-use crate::reader::{JobError, array_of, column_of};
+use crate::reader::{JobError, LayoutError, array_of, column_of};
 use crate::writer::column_text;
+use arrow_meaning::ArrayRef;
 use serde_json::Value;
-use std::alloc::Global;
+use std::alloc::{AllocError, Global};
 
 /// Whether the words are the one word `canon`.
 fn is_canon(words: &[String]) -> bool
@@ -24,31 +28,85 @@ fn is_canon(words: &[String]) -> bool
     }
 }
 
-/// The JSON value of the bytes. BadJob exactly where they have none.
+/// Why bytes are no text of a JSON value.
+#[derive(Drop)]
+enum TextError {
+    /// They are none that nests to depth 127.
+    BadText,
+    /// Memory ran out.
+    OutOfMemory,
+}
+
+/// The JSON value of the bytes. BadText exactly where they have none.
 #[tactic(auto, unfolding(crate::specs::Job::reading))]
-fn parse(alloc: Global, bytes: &[u8]) -> Result<Value, JobError>
+fn parse(alloc: Global, bytes: &[u8]) -> Result<Value, TextError>
     ensures ok { IfOk result (λ v. reading bytes.now ≡ Some (view v)) }
-    ensures bad { IsErrOf result JobError.BadJob → reading bytes.now ≡ None }
+    ensures bad { IsErrOf result TextError.BadText → reading bytes.now ≡ None }
 {
     match Value::from_slice(alloc, bytes) {
         Ok(value) => Ok(value),
         Err(error) => if error.is_memory() {
-            Err(JobError::OutOfMemory)
+            Err(TextError::OutOfMemory)
         } else {
-            Err(JobError::BadJob)
+            Err(TextError::BadText)
         },
     }
 }
 
-/// What is written for the bytes of a job. BadJob exactly where they are no job.
-fn answer(alloc: Global, bytes: &[u8]) -> Result<String, JobError>
+/// Why a job has no answer.
+#[derive(Drop)]
+pub enum Refusal {
+    /// The bytes are no text of a JSON value.
+    BadText,
+    /// The value is no column of the grammar.
+    BadJob,
+    /// The column isn't well formed.
+    BadLayout,
+    /// Memory ran out.
+    OutOfMemory,
+}
+
+impl From<AllocError> for Refusal {
+    ghost from_gives = { λ _ e. e ≡ OutOfMemory };
+
+    fn from(_: AllocError) -> Refusal {
+        Refusal::OutOfMemory
+    }
+}
+
+/// The column that the bytes of a job are. Each refusal comes exactly for its cause.
+fn column_in(alloc: Global, bytes: &[u8]) -> Result<ArrayRef, Refusal>
+    requires { length bytes.now ≤ limit }
+    ensures ok { IfOk result (λ c. IsJob bytes.now c) }
+    ensures bad { IfErr result (λ e. IfSome (refusal_of e) (λ v. IsOf v bytes.now)) }
+{
+    let value = match parse(alloc, bytes) {
+        Ok(value) => value,
+        Err(TextError::BadText) => return Err(Refusal::BadText),
+        Err(TextError::OutOfMemory) => return Err(Refusal::OutOfMemory),
+    };
+    let column = match column_of(alloc, &value) {
+        Ok(column) => column,
+        Err(JobError::BadJob) => return Err(Refusal::BadJob),
+        Err(JobError::OutOfMemory) => return Err(Refusal::OutOfMemory),
+    };
+    match array_of(alloc, column) {
+        Ok(array) => Ok(array),
+        Err(LayoutError::BadLayout) => Err(Refusal::BadLayout),
+        Err(LayoutError::OutOfMemory) => Err(Refusal::OutOfMemory),
+    }
+}
+
+/// What is written for the bytes of a job. Each refusal comes exactly for its cause.
+fn answer(alloc: Global, bytes: &[u8]) -> Result<String, Refusal>
     requires { length bytes.now ≤ limit }
     ensures ok { IfOk result (λ text. (c : Layout) × IsJob bytes.now c × (string_bytes text ≡ canon_text c)) }
-    ensures bad { IsErrOf result JobError.BadJob → IsNoJob bytes.now }
+    ensures bad { IfErr result (λ e. IfSome (refusal_of e) (λ v. IsOf v bytes.now)) }
 {
-    let value = parse(alloc, bytes)?;
-    let column = column_of(alloc, &value)?;
-    let array = array_of(alloc, column)?;
+    let array = match column_in(alloc, bytes) {
+        Ok(array) => array,
+        Err(refusal) => return Err(refusal),
+    };
     let canonical = canonical(alloc, &array)?;
     let text = column_text(alloc, &canonical)?;
     Ok(text)
@@ -75,12 +133,11 @@ pub fn run<S: Source, K: Sink>(
     ensures part { result ≡ Outcome.WriteFault → IfSome (S.left source.old) (λ bytes.
         (S.left source.new ≡ Some []) × ((c : Layout) × IsJob bytes c
         × AppendsFront (K.held sink.old) (K.held sink.new) (canon_text c))) }
-    // The bytes are no job; they were read to their end where there aren't too many.
-    ensures bad_job { result ≡ Outcome.BadJob → IfSome (S.left source.old) (λ bytes.
-        IsNoJob bytes × (length bytes ≤ limit → S.left source.new ≡ Some [])) }
-    // Bytes that are no job are never answered as one.
-    ensures refused { IfSome (S.left source.old) (λ bytes. IsNoJob bytes
-        → (result ≢ Outcome.Done) × (result ≢ Outcome.WriteFault)) }
+    // What the bytes are is told truly. The verdicts exclude one another, so each answer comes exactly for its own.
+    ensures verdict { IfSome (S.left source.old) (λ bytes. IfSome (verdict_of result) (λ v. IsOf v bytes)) }
+    ensures first { (i : ℕ) → result ≡ Outcome.BadLayout i → i ≡ 0 }
+    // They were read to their end, where there aren't too many.
+    ensures read { IfSome (S.left source.old) (λ bytes. IsSome (verdict_of result) → length bytes ≤ limit → S.left source.new ≡ Some []) }
     // No other answer has written anything.
     ensures unwritten { result ≢ Outcome.Done → result ≢ Outcome.WriteFault → sink.new ≡ sink.old }
     // Without a fault a job is done, or memory ran out.
@@ -94,13 +151,15 @@ pub fn run<S: Source, K: Sink>(
     let bytes = match read_all(alloc, source) {
         Ok(bytes) => bytes,
         Err(ReadError::Fault) => return Outcome::ReadFault,
-        Err(ReadError::TooLong) => return Outcome::BadJob,
+        Err(ReadError::TooLong) => return Outcome::TooLong,
         Err(ReadError::OutOfMemory) => return Outcome::OutOfMemory,
     };
     let text = match answer(alloc, &bytes) {
         Ok(text) => text,
-        Err(JobError::BadJob) => return Outcome::BadJob,
-        Err(JobError::OutOfMemory) => return Outcome::OutOfMemory,
+        Err(Refusal::BadText) => return Outcome::BadText,
+        Err(Refusal::BadJob) => return Outcome::BadJob,
+        Err(Refusal::BadLayout) => return Outcome::BadLayout(0),
+        Err(Refusal::OutOfMemory) => return Outcome::OutOfMemory,
     };
     match write_all(sink, text.as_bytes()) {
         Ok(()) => Outcome::Done,

@@ -7,6 +7,7 @@ mod laws;
 mod memory;
 mod outcome;
 mod outside;
+mod plain;
 mod reader;
 mod standard;
 #[cfg(test)]

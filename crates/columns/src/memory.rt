@@ -1,13 +1,38 @@
 //! A source and a sink over memory, which give and take small pieces and fail at chosen calls.
-ghost use Rattle.std.specs.Prelude.{◌≡◌, ◌≤◌, ◌<◌, ◌^◌, ◌+◌, ◌-◌, ◌==◌, ◌||◌, ◌&&◌, not, min, [], List, length, take, drop, Some, IfOk, OnOk, OnErr, is_err};
+ghost use Rattle.std.specs.Prelude.{◌≡◌, ◌≤◌, ◌<◌, ◌^◌, ◌+◌, ◌-◌, ◌==◌, ◌||◌, ◌&&◌, not, min, [], ◌++◌, List, length, take, drop, Some, IfOk, OnOk, OnErr, is_err};
 ghost use Rattle.std.specs.List.{list_any};
 ghost use Rattle.std.specs.Io.{ReadsAtMost};
 ghost use Rattle.std.specs.Io.KnownBytes.{ReadConsumes, WriteAppends};
-ghost use Rattle.columns.specs.Causes.{HasCause, TakesSome};
+ghost use Rattle.columns.specs.Causes.{HasCause, TakesSome, Moves};
 
 use crate::outside::{Sink, SinkFailed, Source, SourceFailed};
 use arrow_types::Mem;
 use std::alloc::Global;
+
+/// Copies the bytes from `at` on into the buffer, at most `most` of them, and answers how many.
+pub(crate) fn give(bytes: &[u8], at: usize, most: usize, buf: &mut [u8]) -> usize
+    requires within { at ≤ length bytes.now }
+    requires some { 0 < most }
+    ensures count { result ≡ min (min most (length buf.old)) (length bytes.now - at) }
+    ensures fits { at + result ≤ length bytes.now }
+    ensures moved { Moves (drop at bytes.now) (drop (at + result) bytes.now) result buf.new }
+{
+    let count = most.min(buf.len()).min(bytes.len() - at);
+    buf[..count].copy_from_slice(&bytes[at..at + count]);
+    count
+}
+
+/// Copies bytes to the buffer's place `len` and behind it, at most `most` of them, and answers how many.
+pub(crate) fn put(buffer: &mut Vec<u8>, len: usize, most: usize, bytes: &[u8]) -> usize
+    requires { len ≤ length buffer.old.items }
+    ensures count { result ≡ min (min most (length bytes.now)) (length buffer.old.items - len) }
+    ensures size { length buffer.new.items ≡ length buffer.old.items }
+    ensures put { take (len + result) buffer.new.items ≡ take len buffer.old.items ++ take result bytes.now }
+{
+    let count = most.min(bytes.len()).min(buffer.len() - len);
+    buffer[len..len + count].copy_from_slice(&bytes[..count]);
+    count
+}
 
 /// Bytes that are given in pieces, with calls that fail by their number.
 #[derive(Drop)]
@@ -73,9 +98,7 @@ impl Source for MemorySource {
             self.faults = self.faults.saturating_add(1);
             return Err(SourceFailed);
         }
-        let left = self.bytes.len() - self.at;
-        let count = self.piece.min(buf.len()).min(left);
-        buf[..count].copy_from_slice(&self.bytes[self.at..self.at + count]);
+        let count = give(self.bytes.as_slice(), self.at, self.piece, buf);
         self.at += count;
         Ok(count)
     }
@@ -157,8 +180,7 @@ impl Sink for MemorySink {
             self.faults = self.faults.saturating_add(1);
             return Err(SinkFailed);
         }
-        let count = self.piece.min(bytes.len()).min(room);
-        self.buffer[self.len..self.len + count].copy_from_slice(&bytes[..count]);
+        let count = put(&mut self.buffer, self.len, self.piece, bytes);
         self.len += count;
         Ok(count)
     }

@@ -8,8 +8,14 @@ pub enum Outcome {
     Done,
     /// The words are none of the forms.
     Usage,
-    /// The input is no job.
+    /// The bytes are no JSON text that nests to depth 127.
+    BadText,
+    /// The value isn't in the command's grammar.
     BadJob,
+    /// The column at this position is the first that isn't well formed.
+    BadLayout(usize),
+    /// The source gave more bytes than a job may have.
+    TooLong,
     /// The source failed.
     ReadFault,
     /// The sink failed; it holds a front of the output.
@@ -27,7 +33,10 @@ pub fn outcome_text(outcome: &Outcome) -> &str
     match outcome {
         Outcome::Done => "done",
         Outcome::Usage => "usage",
+        Outcome::BadText => "bad text",
         Outcome::BadJob => "bad job",
+        Outcome::BadLayout(_) => "bad layout",
+        Outcome::TooLong => "too long",
         Outcome::ReadFault => "read fault",
         Outcome::WriteFault => "write fault",
         Outcome::OutOfMemory => "out of memory",
@@ -41,7 +50,10 @@ pub fn status(outcome: &Outcome) -> u8
     match outcome {
         Outcome::Done => 0,
         Outcome::Usage => 2,
+        Outcome::BadText => 3,
         Outcome::BadJob => 4,
+        Outcome::BadLayout(_) => 5,
+        Outcome::TooLong => 6,
         Outcome::ReadFault => 20,
         Outcome::WriteFault => 21,
         Outcome::OutOfMemory => 30,

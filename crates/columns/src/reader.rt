@@ -1,20 +1,20 @@
 //! A column from its JSON value.
-ghost use Rattle.std.specs.Prelude.{◌≡◌, [], ◌∷◌, map, option_map, codes, Some, None, IfOk, IsErrOf};
+ghost use Rattle.std.specs.Prelude.{◌≡◌, [], ◌∷◌, map, option_map, codes, Some, None, IfOk, IsErrOf, Decides};
 ghost use Rattle.std.specs.Int.{w32};
 ghost use Rattle.serde_json.specs.View.{view};
 ghost use Rattle.arrow_types.specs.Seen.{seen};
 ghost use Rattle.arrow_types.specs.declared.datatype.PrimitiveType.TheVariants as primitive;
-ghost use Rattle.arrow_flat.specs.Numbers.{signed};
+ghost use Rattle.arrow_flat.specs.Natives.{signed};
 ghost use Rattle.arrow_buffers.specs.Bits.{plain};
 ghost use Rattle.arrow_meaning.specs.WellFormed.{WellFormed};
-ghost use Rattle.columns.specs.Json.{traverse, bit_of, two_members, is_text, mask_in, number_in, numbers_in, data_in, type_in, column_of};
-ghost use Rattle.columns.specs.Parts.{layout_of};
+ghost use Rattle.columns.specs.Json.{traverse, bit_of, two_members, is_text, mask_in, number_in, numbers_in, primitives_in, data_in, type_in, column_of};
+ghost use Rattle.columns.specs.Parts.{layout_of, IsInt32Type};
 ghost use Rattle.columns.specs.declared.reader.JobError.TheVariants.{OutOfMemory};
 
 use arrow_buffers::{Bitmap, Buffer};
 use arrow_flat::PrimitiveArray;
 use arrow_meaning::{ArrayRef, Node, PrimitiveNode};
-use arrow_types::{ArrowDataType, PolarsError};
+use arrow_types::{ArrowDataType, PrimitiveType};
 use serde_json::Value;
 use std::alloc::{AllocError, AllocFailed, Global};
 
@@ -29,7 +29,7 @@ pub struct Column {
 /// Why a value gives no column.
 #[derive(Drop)]
 pub enum JobError {
-    /// It is none.
+    /// It is none of the grammar.
     BadJob,
     /// Memory ran out.
     OutOfMemory,
@@ -159,7 +159,7 @@ fn numbers_in(alloc: Global, value: &Value) -> Result<Vec<i32>, JobError>
 }
 
 /// The type that a value spells.
-#[tactic(auto, unfolding(crate::specs::Json::type_in))]
+#[tactic(auto, using(crate::proofs::TypeViews::seen_types), unfolding(crate::specs::Json::type_in))]
 fn type_in(value: &Value) -> Option<ArrowDataType>
     ensures { option_map seen result ≡ type_in (view value.now) }
 {
@@ -170,11 +170,13 @@ fn type_in(value: &Value) -> Option<ArrowDataType>
     }
 }
 
-/// The data of a column of a type, its parts fitting or not.
+/// The data of a column of 32-bit integers, its parts fitting or not.
 #[tactic(auto, unfolding(crate::specs::Json::primitives_in))]
-fn data_in(alloc: Global, dtype: ArrowDataType, value: &Value) -> Result<Column, JobError>
-    ensures ok { IfOk result (λ c. data_in (seen dtype) (view value.now) ≡ Some (layout_of c)) }
-    ensures bad { IsErrOf result JobError.BadJob → data_in (seen dtype) (view value.now) ≡ None }
+fn int32s_in(alloc: Global, dtype: ArrowDataType, value: &Value) -> Result<Column, JobError>
+    requires { IsInt32Type (seen dtype) }
+    ensures stored { IfOk result (λ c. IsInt32Type (seen c.dtype)) }
+    ensures ok { IfOk result (λ c. primitives_in (seen dtype) primitive.Int32 (view value.now) ≡ Some (layout_of c)) }
+    ensures bad { IsErrOf result JobError.BadJob → primitives_in (seen dtype) primitive.Int32 (view value.now) ≡ None }
 {
     let Some((mask, values)) = two_members(value, "mask", "values") else {
         return Err(JobError::BadJob);
@@ -189,9 +191,32 @@ fn data_in(alloc: Global, dtype: ArrowDataType, value: &Value) -> Result<Column,
     })
 }
 
+/// Whether the type is stored as 32-bit integers.
+fn is_int32s(dtype: &ArrowDataType) -> bool
+    ensures { Decides result (IsInt32Type (seen dtype.now)) }
+{
+    match dtype.to_physical_type() {
+        Some(stored) => stored.eq_primitive(PrimitiveType::Int32),
+        None => false,
+    }
+}
+
+/// The data of a column of a type, its parts fitting or not.
+fn data_in(alloc: Global, dtype: ArrowDataType, value: &Value) -> Result<Column, JobError>
+    ensures stored { IfOk result (λ c. IsInt32Type (seen c.dtype)) }
+    ensures ok { IfOk result (λ c. data_in (seen dtype) (view value.now) ≡ Some (layout_of c)) }
+    ensures bad { IsErrOf result JobError.BadJob → data_in (seen dtype) (view value.now) ≡ None }
+{
+    if !is_int32s(&dtype) {
+        return Err(JobError::BadJob);
+    }
+    int32s_in(alloc, dtype, value)
+}
+
 /// The column that a value is, its parts fitting or not. BadJob exactly where it isn't in the grammar.
 #[tactic(auto, unfolding(crate::specs::Json::column_of))]
 pub fn column_of(alloc: Global, value: &Value) -> Result<Column, JobError>
+    ensures stored { IfOk result (λ c. IsInt32Type (seen c.dtype)) }
     ensures ok { IfOk result (λ c. column_of (view value.now) ≡ Some (layout_of c)) }
     ensures bad { IsErrOf result JobError.BadJob → column_of (view value.now) ≡ None }
 {
@@ -204,10 +229,20 @@ pub fn column_of(alloc: Global, value: &Value) -> Result<Column, JobError>
     data_in(alloc, dtype, data)
 }
 
-/// The array of a column's parts. BadJob exactly where they aren't well formed.
-pub fn array_of(alloc: Global, column: Column) -> Result<ArrayRef, JobError>
+/// Why parts give no array.
+#[derive(Drop)]
+pub enum LayoutError {
+    /// They aren't well formed.
+    BadLayout,
+    /// Memory ran out.
+    OutOfMemory,
+}
+
+/// The array of a column's parts. BadLayout exactly where they aren't well formed.
+pub fn array_of(alloc: Global, column: Column) -> Result<ArrayRef, LayoutError>
+    requires { IsInt32Type (seen column.dtype) }
     ensures ok { IfOk result (λ a. (a ≡ layout_of column) × WellFormed (layout_of column)) }
-    ensures bad { IsErrOf result JobError.BadJob → WellFormed (layout_of column) → ⊥ }
+    ensures bad { IsErrOf result LayoutError.BadLayout → WellFormed (layout_of column) → ⊥ }
 {
     let Column {
         dtype,
@@ -217,11 +252,20 @@ pub fn array_of(alloc: Global, column: Column) -> Result<ArrayRef, JobError>
     match PrimitiveArray::try_new(dtype, values, validity) {
         Ok(array) => {
             let node = Node::Primitive(PrimitiveNode::Int32(array));
-            let array = ArrayRef::from_node(alloc, node)?;
-            array.len();
-            Ok(array)
+            match ArrayRef::from_node(alloc, node) {
+                Ok(array) => Ok(known(array)),
+                Err(_) => Err(LayoutError::OutOfMemory),
+            }
         }
-        Err(PolarsError::ComputeError(_)) => Err(JobError::BadJob),
-        Err(PolarsError::OutOfMemory) => Err(JobError::OutOfMemory),
+        Err(_) => Err(LayoutError::BadLayout),
     }
+}
+
+/// The same array, of which a caller knows that its layout is well formed.
+fn known(array: ArrayRef) -> ArrayRef
+    ensures same { result ≡ array }
+    ensures sound { WellFormed array }
+{
+    array.node();
+    array
 }

@@ -2,6 +2,7 @@
 use crate::job::run;
 use crate::memory::{MemorySink, MemorySource};
 use crate::outcome::Outcome;
+use crate::plain::{PlainSink, PlainSource};
 use std::alloc::{AllocError, Global};
 use std::test::Fail;
 
@@ -82,7 +83,7 @@ fn each_input_has_its_outcome(rt: HostRuntime) -> Result<(), Fail> {
         ),
         (
             "{\"data\":{\"mask\":\"10\",\"values\":[1,7,3]},\"type\":\"int32\"}",
-            Outcome::BadJob,
+            Outcome::BadLayout(0),
             "",
         ),
         (
@@ -97,11 +98,11 @@ fn each_input_has_its_outcome(rt: HostRuntime) -> Result<(), Fail> {
         ),
         (
             "{\"data\":{\"mask\":null,\"values\":[1]},\"type\":\"int32\"}x",
-            Outcome::BadJob,
+            Outcome::BadText,
             "",
         ),
-        ("{\"data\":", Outcome::BadJob, ""),
-        ("", Outcome::BadJob, ""),
+        ("{\"data\":", Outcome::BadText, ""),
+        ("", Outcome::BadText, ""),
     ] {
         let found = run_of(
             alloc,
@@ -117,19 +118,50 @@ fn each_input_has_its_outcome(rt: HostRuntime) -> Result<(), Fail> {
     Ok(())
 }
 
+// As many opening brackets as closing ones.
+fn brackets(alloc: Global, depth: usize) -> Result<Vec<u8>, AllocError> {
+    let mut text = Vec::new(alloc);
+    for _ in 0..depth {
+        text.push(b'[')?;
+    }
+    for _ in 0..depth {
+        text.push(b']')?;
+    }
+    Ok(text)
+}
+
 #[test]
-fn bytes_that_are_no_text_and_too_many_bytes_are_bad(rt: HostRuntime) -> Result<(), Fail> {
+fn bytes_at_the_limits_have_their_outcome(rt: HostRuntime) -> Result<(), Fail> {
     let alloc = rt.alloc();
     let words = words_of(alloc, &["canon"])?;
-    let mut held = String::new(alloc);
-    let outcome = run_of(alloc, words.as_slice(), &[255], &[], &[], &mut held)?;
-    assert_eq!(rt; outcome, Outcome::BadJob);
-    let long = vec![in alloc; b' '; 16_777_217]?;
-    let mut source = MemorySource::new(alloc, long.as_slice(), 4096, &[])?;
-    let mut sink = MemorySink::new(alloc, 256, 8, &[])?;
-    let outcome = run(alloc, words.as_slice(), &mut source, &mut sink);
-    assert_eq!(rt; outcome, Outcome::BadJob);
-    assert_eq!(rt; sink.held().len(), 0);
+    for (input, outcome) in [
+        (vec![in alloc; 255; 1]?, Outcome::BadText),
+        (vec![in alloc; b' '; 16_777_216]?, Outcome::BadText),
+        (vec![in alloc; b' '; 16_777_217]?, Outcome::TooLong),
+        (brackets(alloc, 127)?, Outcome::BadJob),
+        (brackets(alloc, 128)?, Outcome::BadText),
+    ] {
+        let mut source = PlainSource::new(input);
+        let mut sink = PlainSink::new(vec![in alloc; 0; 256]?);
+        let found = run(alloc, words.as_slice(), &mut source, &mut sink);
+        assert_eq!(rt; found, outcome);
+        assert_eq!(rt; sink.held().len(), 0);
+    }
+    Ok(())
+}
+
+#[test]
+fn a_plain_sink_without_room_is_a_write_fault(rt: HostRuntime) -> Result<(), Fail> {
+    let alloc = rt.alloc();
+    let words = words_of(alloc, &["canon"])?;
+    for (room, outcome) in [(55, Outcome::WriteFault), (56, Outcome::Done)] {
+        let mut source = PlainSource::new(NULL_IN_THE_MIDDLE.as_bytes().to_vec(alloc)?);
+        let mut sink = PlainSink::new(vec![in alloc; 0; room]?);
+        let found = run(alloc, words.as_slice(), &mut source, &mut sink);
+        assert_eq!(rt; found, outcome);
+        assert_eq!(rt; sink.held().len(), room);
+        assert!(rt; ZERO_IN_THE_MIDDLE.as_bytes().starts_with(sink.held()));
+    }
     Ok(())
 }
 

@@ -3,16 +3,16 @@ ghost use Rattle.std.specs.Prelude.{◌≡◌, [], ◌∷◌, map, string_bytes,
 ghost use Rattle.std.specs.Int.{w32};
 ghost use Rattle.serde_json.specs.View.{view};
 ghost use Rattle.arrow_types.specs.declared.datatype.PrimitiveType.TheVariants as primitive;
-ghost use Rattle.arrow_types.specs.declared.datatype.PhysicalType.TheVariants as physical;
 ghost use Rattle.arrow_types.specs.Seen.{seen};
 ghost use Rattle.arrow_buffers.specs.Bits.{Bits};
-ghost use Rattle.arrow_flat.specs.Numbers.{signed};
+ghost use Rattle.arrow_flat.specs.Natives.{signed};
 ghost use Rattle.arrow_flat.specs.Primitives.{seen_mask};
 ghost use Rattle.columns.specs.Json.{bit_char, mask_value, numbers_value, primitives_value, data_value, type_value, column_value, column_text};
 
+use crate::canonical::int32s;
 use arrow_buffers::Bitmap;
 use arrow_flat::PrimitiveArray;
-use arrow_meaning::{ArrayRef, Node, PrimitiveNode};
+use arrow_meaning::ArrayRef;
 use arrow_types::{ArrowDataType, Mem};
 use serde_json::{Value, json};
 use std::alloc::Global;
@@ -58,7 +58,7 @@ fn numbers_json(alloc: Global, values: &[i32]) -> Mem<Value>
 }
 
 fn primitive_json(alloc: Global, array: &PrimitiveArray<i32>) -> Mem<Value>
-    ensures { IfOk result (λ v. view v ≡ primitives_value (Some (physical.Primitive primitive.Int32)) array.now.mask (map (signed w32) array.now.values)) }
+    ensures { IfOk result (λ v. view v ≡ primitives_value primitive.Int32 array.now.mask (map (signed w32) array.now.values)) }
 {
     let mask = mask_json(alloc, array.validity())?;
     let values = numbers_json(alloc, array.values().as_slice())?;
@@ -68,16 +68,18 @@ fn primitive_json(alloc: Global, array: &PrimitiveArray<i32>) -> Mem<Value>
 fn data_json(alloc: Global, array: &ArrayRef) -> Mem<Value>
     ensures { IfOk result (λ v. view v ≡ data_value array.now) }
 {
-    match array.node() {
-        Node::Primitive(PrimitiveNode::Int32(array)) => primitive_json(alloc, array),
-    }
+    let numbers = int32s(array);
+    numbers.dtype();
+    primitive_json(alloc, numbers)
 }
 
+#[tactic(auto, using(crate::proofs::TypeViews::seen_types))]
 fn type_json(alloc: Global, dtype: &ArrowDataType) -> Mem<Value>
     ensures { IfOk result (λ v. view v ≡ type_value (seen dtype.now)) }
 {
     match dtype {
         ArrowDataType::Int32 => json!(in alloc; "int32"),
+        _ => Ok(Value::Null),
     }
 }
 

@@ -1,5 +1,6 @@
-use Rattle.arrow_meaning.proofs.Primitives.{are_numbers}
+use Rattle.std.proofs.Common.{arith}
+use Rattle.arrow_meaning.proofs.Primitives.{well_formed_primitive}
 use Rattle.arrow_meaning.proofs.primitive.sound_len.Goals as goal
 
-pub returns-clause-values : goal.returns-clause-values
-returns-clause-values g c = are_numbers g.T.NativeType.PRIMITIVE g.T.NativeType.parts g.met.T.NativeType.parts_fit c.args.array.now.values
+pub returns-clause-sound : goal.returns-clause-sound
+returns-clause-sound g c = well_formed_primitive g.T.NativeType.PRIMITIVE g.T.NativeType.parts g.met.T.NativeType.parts_fit c.args.array.now c.dtype.ensures.sound (omega arith)

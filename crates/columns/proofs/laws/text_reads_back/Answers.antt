@@ -1,9 +1,8 @@
 use Rattle.columns.proofs.ColumnText.{column_again, text_reading}
-use Rattle.columns.proofs.Equal.{values_of_sound}
 use Rattle.columns.proofs.laws.text_reads_back.Goals as goal
 
 pub returns-clause-reading : goal.returns-clause-reading
-returns-clause-reading c = λ l h. text_reading l (values_of_sound l h)
+returns-clause-reading c = text_reading
 
 pub returns-clause-column : goal.returns-clause-column
-returns-clause-column c = λ l h p. column_again l (values_of_sound l h) p
+returns-clause-column c = column_again

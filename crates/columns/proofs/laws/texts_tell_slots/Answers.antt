@@ -6,4 +6,4 @@ use Rattle.columns.proofs.Equal.{equal_texts}
 use Rattle.columns.proofs.laws.texts_tell_slots.Goals as goal
 
 pub returns : goal.returns
-returns c = λ s r hs hr. (equal_texts int32 s r hs hr, ap (λ x. column_text (canon int32 x)))
+returns c = λ s r hs hr. (equal_texts s r hs hr, ap (λ x. column_text (canon int32 x)))

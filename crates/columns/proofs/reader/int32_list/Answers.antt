@@ -4,7 +4,7 @@ use Rattle.std.proofs.lemmas.Int.{ints, to_z-of_z}
 use Rattle.std.proofs.lemmas.List.{map-append}
 use Rattle.serde_json.specs.View.{view}
 use Rattle.arrow_types.specs.declared.datatype.PrimitiveType.TheVariants as primitive
-use Rattle.arrow_flat.specs.Numbers.{signed}
+use Rattle.arrow_flat.specs.Natives.{signed}
 use Rattle.columns.specs.Json.{number_in}
 use Rattle.columns.proofs.Walks.{traverse_map-none, traverse_map-more}
 use Rattle.columns.proofs.reader.int32_list.Goals as goal

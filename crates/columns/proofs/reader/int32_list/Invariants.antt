@@ -2,7 +2,7 @@ use Rattle.std.proofs.Common.{◌≡◌, take, Some, w32}
 use Rattle.std.specs.Prelude.{map}
 use Rattle.serde_json.specs.View.{view}
 use Rattle.arrow_types.specs.declared.datatype.PrimitiveType.TheVariants as primitive
-use Rattle.arrow_flat.specs.Numbers.{signed}
+use Rattle.arrow_flat.specs.Natives.{signed}
 use Rattle.columns.specs.Json.{traverse, number_in}
 use Rattle.columns.proofs.reader.int32_list.Given as goal
 

@@ -1,0 +1,30 @@
+use Rattle.std.proofs.Common.{◌≡◌}
+use Rattle.std.specs.Io.KnownBytes.{Appends}
+use Rattle.columns.specs.Causes.{AppendsFront}
+use Rattle.columns.specs.Job.{a_job}
+use Rattle.columns.proofs.Jobs.{verdict_of_taken, written_of_taken}
+use Rattle.columns.proofs.job.run.Goals as goal
+
+pub returns-in-Ok-write_all-clause-done : goal.returns-in-Ok-write_all-clause-done
+returns-in-Ok-write_all-clause-done g c = λ _.
+    let read = c.in-Ok.ensures.whole in
+    written_of_taken (Appends (g.K.Sink.held c.args.sink.now) (g.K.Sink.held c.write_all.new.sink)) _ _ c.in-Ok.bytes.items c.deref.result.now _ c.as_bytes.result.now
+    read.0 read.1 c.deref.ensures.value c.in-Ok-answer.ensures.ok c.as_bytes.ensures.value c.in-Ok-write_all.ensures.whole
+
+pub returns-in-Ok-write_all-clause-verdict : goal.returns-in-Ok-write_all-clause-verdict
+returns-in-Ok-write_all-clause-verdict g c =
+    let read = c.in-Ok.ensures.whole in
+    let job = c.in-Ok-answer.ensures.ok in
+    verdict_of_taken a_job _ _ c.in-Ok.bytes.items c.deref.result.now read.0 read.1 c.deref.ensures.value (job.0, job.1)
+
+pub returns-clause-part : goal.returns-clause-part
+returns-clause-part g c = λ _.
+    let read = c.in-Ok.ensures.whole in
+    written_of_taken (AppendsFront (g.K.Sink.held c.args.sink.now) (g.K.Sink.held c.write_all.new.sink)) _ _ c.in-Ok.bytes.items c.deref.result.now _ c.as_bytes.result.now
+    read.0 read.1 c.deref.ensures.value c.in-Ok-answer.ensures.ok c.as_bytes.ensures.value c.in-Err.ensures.part
+
+pub returns-clause-verdict : goal.returns-clause-verdict
+returns-clause-verdict g c =
+    let read = c.in-Ok.ensures.whole in
+    let job = c.in-Ok-answer.ensures.ok in
+    verdict_of_taken a_job _ _ c.in-Ok.bytes.items c.deref.result.now read.0 read.1 c.deref.ensures.value (job.0, job.1)
