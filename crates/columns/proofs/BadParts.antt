@@ -1,5 +1,5 @@
 -- Parts that are refused are not well formed.
-use Rattle.std.proofs.Common.{◌≡◌, ◌<◌, ℕ, List, length, ap, ◌∙◌, subst, Option, Some, None}
+use Rattle.std.proofs.Common.{ℕ, List, length, subst, Option, Some, None}
 use Rattle.std.specs.Prelude.{ℤ, map}
 use Rattle.std.proofs.lemmas.List.{length-map}
 use Rattle.arrow_buffers.specs.Bits.{Bits}

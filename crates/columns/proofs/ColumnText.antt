@@ -1,5 +1,5 @@
 -- A column's text is read back as the column.
-use Rattle.std.proofs.Common.{◌≡◌, ◌≤◌, ◌<◌, ◌^◌, max, ℕ, List, [], ◌∷◌, refl, ap, sym, ◌∙◌, subst, Option, Some, None, true, false, arith, lt-ltb, le-leb}
+use Rattle.std.proofs.Common.{◌≡◌, ◌≤◌, ◌<◌, ◌^◌, max, ℕ, List, [], ◌∷◌, ◌++◌, refl, ap, sym, ◌∙◌, subst, Option, Some, None, true, false, arith, lt-ltb, le-leb}
 use Rattle.std.specs.Prelude.{ℤ, pos, negsuc, map, Bool, IsUtf8, codes, option_map, option_and_then}
 use Rattle.std.specs.List.{AllByRecursion}
 use Rattle.std.proofs.lemmas.Str.{IsUtf8-append, IsUtf8-from_ascii, IsUtf8-nil}
@@ -8,26 +8,37 @@ use Rattle.json.specs.Tree as tree
 use Rattle.json.specs.Print.{IsNumber as IsNumberText}
 use Rattle.json.proofs.Printed.Decimals.{IsNumber-decimal, IsNumber-signed_decimal}
 use Rattle.json.proofs.Printed.Utf8.{IsUtf8-are_ascii, are_ascii}
-use Rattle.serde_json.specs.Data.{Data, Items, depth, items_depth}
+use Rattle.serde_json.specs.Data.{Data, object, no_members, member, Items, depth, items_depth}
 use Rattle.serde_json.specs.Find.{of_integer}
 use Rattle.serde_json.specs.Read.{read, number_of}
 use Rattle.serde_json.specs.View.{items_of}
-use Rattle.serde_json.specs.Written.{number_text, outline, items_outline}
+use Rattle.serde_json.specs.Written.{number_text, outline, items_outline, compact_text}
 use Rattle.serde_json.proofs.Numbers.{number_of-decimal, number_of-negative}
 use Rattle.arrow_buffers.specs.Bits.{Bits}
 use Rattle.arrow_types.specs.TypeData.{TypeData}
-use Rattle.arrow_types.specs.TypeData as T
+use Rattle.arrow_types.specs.declared.datatype.PrimitiveType.{PrimitiveType}
 use Rattle.arrow_types.specs.declared.datatype.PrimitiveType.TheVariants as primitive
 use Rattle.arrow_flat.specs.Numbers.{InRange, signed_range, IsNumber}
 use Rattle.arrow_meaning.specs.Layouts.{Layout, nulls, booleans, primitives, binaries, fixed_size_binaries, views, lists, fixed_size_lists, structs, sparse_unions, dense_unions, dictionaries}
-use Rattle.columns.specs.Json.{traverse, bit_of, bit_char, mask_in, mask_value, number_in, number_value, numbers_in, numbers_value, primitives_in, type_in, column_of, column_value, column_text}
+use Rattle.arrow_meaning.specs.Forms.{primitive_by}
+use Rattle.arrow_meaning.proofs.Primitives.{primitive_form}
+use Rattle.arrow_json.specs.Values.{traverse}
+use Rattle.arrow_json.specs.TypeJson.{type_value, IsSpelled}
+use Rattle.arrow_json.proofs.Written.{IsWritten as IsValueWritten}
+use Rattle.columns.specs.Json.{bit_of, bit_char, mask_in, mask_value, number_in, number_value, numbers_in, numbers_value, primitives_value, primitives_in, data_in, column_of, column_value, column_text}
+use Rattle.columns.specs.Parts.{IsInt32Type}
 use Rattle.columns.specs.Job.{reading}
-use Rattle.columns.specs.Laws.{IsUnled, IsInt32s, HasNoLead}
-use Rattle.columns.proofs.ReadBack.{line_back}
+use Rattle.columns.specs.Laws.{IsUnled, IsTaken, IsInt32s, HasNoLead}
+use Rattle.arrow_json.proofs.ReadBack.{line_back}
+use Rattle.arrow_json.proofs.Sound.{IsSound, AreSound, outline_back}
+use Rattle.arrow_json.proofs.TypeBack.{type_back}
+use Rattle.arrow_json.proofs.TypeDepth.{type_depth}
+use Rattle.arrow_json.proofs.TypeWritten.{type_written}
+use Rattle.arrow_json.proofs.Utf8.{HasUtf8, ItemsHaveUtf8, one, text_utf8}
+use Rattle.arrow_json.proofs.Walks.{list_of-items_of}
+use Rattle.columns.proofs.DataKinds.{data_of_int32s}
 use Rattle.columns.proofs.Readings.{reading_some}
-use Rattle.columns.proofs.Sound.{IsSound, AreSound, outline_back}
-use Rattle.columns.proofs.Utf8.{HasUtf8, ItemsHaveUtf8, one, text_utf8}
-use Rattle.columns.proofs.Walks.{list_of-items_of}
+use Rattle.columns.proofs.Stored.{int32_spelled}
 
 -- ---- numbers
 
@@ -89,39 +100,54 @@ mask_written (Some b) = record { sound = tt; numbers = tt; utf8 = bits_utf8 b.bi
 
 -- ---- the whole value
 
+abbrev value_with : PrimitiveType → TypeData → Option Bits → List (List ℤ) → Data
+value_with p t m xs = object (member (codes "data") (primitives_value p m xs) (member (codes "type") (type_value t) no_members))
+
+value_by_parts : (t : TypeData) (m : Option Bits) (xs : List (List ℤ)) → IsInt32Type t → column_value (primitives t m xs) ≡ value_with primitive.Int32 t m xs
+value_by_parts t m xs e = ap (λ f. value_with (primitive_by f) t m xs) (primitive_form t primitive.Int32 e)
+
 ascii : (s : List ℕ) → are_ascii s ≡ true → IsUtf8 s
 ascii s e = IsUtf8-are_ascii s e
 
-module _ (m : Option Bits) (xs : List (List ℤ)) (h : AllByRecursion (IsNumber primitive.Int32) xs) where
+module _ (t : TypeData) (m : Option Bits) (xs : List (List ℤ)) (h : IsTaken t) (hs : AllByRecursion (IsNumber primitive.Int32) xs) where
   abbrev value : Data
-  value = column_value (primitives T.int32 m xs)
+  value = value_with primitive.Int32 t m xs
+
+  spelled : IsSpelled t
+  spelled = int32_spelled t h.stored
+
+  type_parts : IsValueWritten (type_value t)
+  type_parts = type_written t spelled h.texts
 
   column_sound : IsSound value
-  column_sound = (tt, (tt, (mask_written m).sound, ((refl, tt), (numbers_written xs h).sound, tt)), ((refl, tt), tt, tt))
+  column_sound = (tt, (tt, (mask_written m).sound, ((refl, tt), (numbers_written xs hs).sound, tt)), ((refl, tt), type_parts.sound, tt))
 
   column_numbers : tree.HasNumbers (outline value)
-  column_numbers = (((mask_written m).numbers, ((numbers_written xs h).numbers, tt)), (tt, tt))
+  column_numbers = (((mask_written m).numbers, ((numbers_written xs hs).numbers, tt)), (type_parts.numbers, tt))
 
   column_utf8 : HasUtf8 value
   column_utf8 = (
     ascii (codes "data") refl,
-    (ascii (codes "mask") refl, (mask_written m).utf8, (ascii (codes "values") refl, (numbers_written xs h).utf8, tt)),
-    (ascii (codes "type") refl, ascii (codes "int32") refl, tt),
+    (ascii (codes "mask") refl, (mask_written m).utf8, (ascii (codes "values") refl, (numbers_written xs hs).utf8, tt)),
+    (ascii (codes "type") refl, type_parts.utf8, tt),
   )
 
   column_depth : depth value ≤ 127
-  column_depth = omega (arith, (mask_written m).flat, (numbers_written xs h).flat)
+  column_depth = omega (arith, (mask_written m).flat, (numbers_written xs hs).flat, type_depth t spelled, h.shallow)
 
-  line_reads : read (column_text (primitives T.int32 m xs)) ≡ Some value
-  unfolding column_text
+  abbrev line : List ℕ
+  line = compact_text value ++ 10 ∷ []
+
+  line_reads : read line ≡ Some value
   line_reads = line_back value column_numbers column_depth (outline_back value column_sound)
 
-  line_utf8 : IsUtf8 (column_text (primitives T.int32 m xs))
-  unfolding column_text
+  line_utf8 : IsUtf8 line
   line_utf8 = IsUtf8-append _ (10 ∷ []) (text_utf8 value column_utf8) (IsUtf8-are_ascii (10 ∷ []) refl)
 
-  reading_by_parts : reading (column_text (primitives T.int32 m xs)) ≡ Some value
-  reading_by_parts = reading_some (column_text (primitives T.int32 m xs)) value line_utf8 line_reads
+  reading_by_parts : reading (column_text (primitives t m xs)) ≡ Some (column_value (primitives t m xs))
+  unfolding column_text
+  reading_by_parts =
+      subst (λ v. reading (compact_text v ++ 10 ∷ []) ≡ Some v) (sym (value_by_parts t m xs h.stored)) (reading_some line value line_utf8 line_reads)
 
 -- ---- the column again
 
@@ -156,18 +182,24 @@ numbers_again : (xs : List (List ℤ)) → AllByRecursion (IsNumber primitive.In
 unfolding numbers_in
 numbers_again xs h = ap (traverse (number_in primitive.Int32)) (list_of-items_of (map (number_value primitive.Int32) xs)) ∙ list_again xs h
 
-again_by_parts : (m : Option Bits) (xs : List (List ℤ)) → AllByRecursion (IsNumber primitive.Int32) xs → IsUnled m → column_of (column_value (primitives T.int32 m xs)) ≡ Some (primitives T.int32 m xs)
-unfolding column_of primitives_in type_in
-again_by_parts m xs h plain =
-    ap (λ o. option_and_then (λ k. option_map (primitives T.int32 k) (numbers_in primitive.Int32 (numbers_value primitive.Int32 xs))) o) (mask_again m plain)
-    ∙ ap (option_map (primitives T.int32 m)) (numbers_again xs h)
+data_again : (t : TypeData) (m : Option Bits) (xs : List (List ℤ)) → IsInt32Type t → AllByRecursion (IsNumber primitive.Int32) xs → IsUnled m
+    → data_in t (primitives_value primitive.Int32 m xs) ≡ Some (primitives t m xs)
+unfolding primitives_in
+data_again t m xs e hs plain =
+    data_of_int32s t (primitives_value primitive.Int32 m xs) e
+    ∙ ap (λ o. option_and_then (λ k. option_map (primitives t k) (numbers_in primitive.Int32 (numbers_value primitive.Int32 xs))) o) (mask_again m plain)
+    ∙ ap (option_map (primitives t m)) (numbers_again xs hs)
+
+again_by_parts : (t : TypeData) (m : Option Bits) (xs : List (List ℤ)) → IsInt32Type t → AllByRecursion (IsNumber primitive.Int32) xs → IsUnled m
+    → column_of (value_with primitive.Int32 t m xs) ≡ Some (primitives t m xs)
+unfolding column_of
+again_by_parts t m xs e hs plain =
+    ap (option_and_then (λ u. data_in u (primitives_value primitive.Int32 m xs))) (type_back t (int32_spelled t e)) ∙ data_again t m xs e hs plain
 
 -- ---- of layouts
 
 pub text_reading : (l : Layout) → IsInt32s l → reading (column_text l) ≡ Some (column_value l)
-text_reading (primitives t m xs) h =
-    let P : TypeData → Type 0 = λ u. reading (column_text (primitives u m xs)) ≡ Some (column_value (primitives u m xs)) in
-    subst P (sym h.0) (reading_by_parts m xs h.1)
+text_reading (primitives t m xs) h = reading_by_parts t m xs h.0 h.1
 text_reading (nulls t n) h = absurd h
 text_reading (booleans t m vs) h = absurd h
 text_reading (binaries t m os bs) h = absurd h
@@ -181,9 +213,7 @@ text_reading (dense_unions t o ts os ls) h = absurd h
 text_reading (dictionaries t u m ks l) h = absurd h
 
 pub column_again : (l : Layout) → IsInt32s l → HasNoLead l → column_of (column_value l) ≡ Some l
-column_again (primitives t m xs) h plain =
-    let P : TypeData → Type 0 = λ u. column_of (column_value (primitives u m xs)) ≡ Some (primitives u m xs) in
-    subst P (sym h.0) (again_by_parts m xs h.1 plain)
+column_again (primitives t m xs) h plain = ap column_of (value_by_parts t m xs h.0.stored) ∙ again_by_parts t m xs h.0.stored h.1 plain
 column_again (nulls t n) h p = absurd h
 column_again (booleans t m vs) h p = absurd h
 column_again (binaries t m os bs) h p = absurd h

@@ -1,5 +1,5 @@
 -- Which types of columns have data that is read.
-use Rattle.std.proofs.Common.{◌≡◌, refl, ap, Option, Some, None}
+use Rattle.std.proofs.Common.{◌≡◌, refl, ap, Some, None}
 use Rattle.serde_json.specs.Data.{Data}
 use Rattle.arrow_types.specs.TypeData.{TypeData}
 use Rattle.arrow_types.specs.Types.{physical_of}

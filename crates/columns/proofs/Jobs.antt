@@ -1,12 +1,13 @@
 -- What the bytes that a run took say of those that the source told.
-use Rattle.std.proofs.Common.{◌≡◌, arith, ℕ, ◌++◌, [], subst, append-nil, List, refl, ap, sym, ◌∙◌, Option, Some, None}
+use Rattle.std.proofs.Common.{◌≡◌, ◌<◌, ◌≤◌, arith, ℕ, ◌++◌, [], subst, append-nil, List, refl, ap, sym, ◌∙◌, Option, Some, None}
 use Rattle.std.specs.Io.KnownBytes.{Consumes, IsAtEnd}
 use Rattle.std.specs.Prelude.{IfSome}
-use Rattle.arrow_meaning.specs.Layouts.{Layout}
+use Rattle.arrow_meaning.specs.Layouts.{Layout, type_of}
+use Rattle.arrow_types.specs.Depth.{depth_of}
 use Rattle.arrow_meaning.specs.WellFormed.{WellFormed}
 use Rattle.serde_json.specs.Data.{Data}
 use Rattle.columns.specs.Json.{column_of}
-use Rattle.columns.specs.Job.{IsRead, IsJob, Verdict, too_long, bad_text, bad_job, bad_layout, a_job, IsOf, canon_text}
+use Rattle.columns.specs.Job.{deepest, IsRead, IsJob, Verdict, too_long, bad_text, bad_job, too_deep, bad_layout, a_job, IsOf, canon_text}
 
 -- what was taken up to the end is all that there was
 all_taken : (left bytes rest : List ℕ) → left ≡ bytes ++ rest → rest ≡ [] → left ≡ bytes
@@ -43,34 +44,47 @@ unread bytes v a h = let e : Some v ≡ None = sym a.is_read ∙ h.1 in cc
 no_column : (v w : Data) (c : Layout) → v ≡ w → column_of v ≡ None → column_of w ≡ Some c → ⊥
 no_column v w c e n s = cc
 
-same_column : (v w : Data) (c d : Layout) → v ≡ w → column_of v ≡ Some c → column_of w ≡ Some d → c ≡ d
-same_column v w c d e n s = let f : Some c ≡ Some d = sym n ∙ ap column_of e ∙ s in cc
+same_column : (bytes : List ℕ) (v w : Data) (c d : Layout) → IsRead bytes v → IsRead bytes w → column_of v ≡ Some c → column_of w ≡ Some d → c ≡ d
+same_column bytes v w c d a b n s = let f : Some c ≡ Some d = sym n ∙ ap column_of (same_value bytes v w a b) ∙ s in cc
+
+-- too deep by one reading, and not by the other
+deep_and_not : (c d : Layout) → c ≡ d → deepest < depth_of (type_of c) → depth_of (type_of d) ≤ deepest → ⊥
+deep_and_not c d e deep shallow = let h = subst (λ l. deepest < depth_of (type_of l)) e deep in omega (arith, h, shallow)
 
 pub one_verdict : (bytes : List ℕ) (a b : Verdict) → IsOf a bytes → IsOf b bytes → a ≡ b
 one_verdict bytes too_long too_long h k = refl
 one_verdict bytes too_long bad_text h k = absurd (omega (arith, h, k.0))
 one_verdict bytes too_long bad_job h k = absurd (omega (arith, h, k.1.short))
+one_verdict bytes too_long too_deep h k = absurd (omega (arith, h, k.2.short))
 one_verdict bytes too_long bad_layout h k = absurd (omega (arith, h, k.2.short))
 one_verdict bytes too_long a_job h k = absurd (omega (arith, h, k.1.read_as.short))
-one_verdict bytes bad_text too_long h k = absurd (omega (arith, k, h.0))
 one_verdict bytes bad_text bad_text h k = refl
 one_verdict bytes bad_text bad_job h k = absurd (unread bytes k.0 k.1 h)
+one_verdict bytes bad_text too_deep h k = absurd (unread bytes k.0 k.2 h)
 one_verdict bytes bad_text bad_layout h k = absurd (unread bytes k.0 k.2 h)
 one_verdict bytes bad_text a_job h k = absurd (unread bytes k.1.value k.1.read_as h)
-one_verdict bytes bad_job too_long h k = absurd (omega (arith, k, h.1.short))
-one_verdict bytes bad_job bad_text h k = absurd (unread bytes h.0 h.1 k)
 one_verdict bytes bad_job bad_job h k = refl
+one_verdict bytes bad_job too_deep h k = absurd (no_column h.0 k.0 k.1 (same_value bytes h.0 k.0 h.1 k.2) h.2 k.3)
 one_verdict bytes bad_job bad_layout h k = absurd (no_column h.0 k.0 k.1 (same_value bytes h.0 k.0 h.1 k.2) h.2 k.3)
 one_verdict bytes bad_job a_job h k = absurd (no_column h.0 k.1.value k.0 (same_value bytes h.0 k.1.value h.1 k.1.read_as) h.2 k.1.is_column)
-one_verdict bytes bad_layout too_long h k = absurd (omega (arith, k, h.2.short))
-one_verdict bytes bad_layout bad_text h k = absurd (unread bytes h.0 h.2 k)
-one_verdict bytes bad_layout bad_job h k = absurd (no_column k.0 h.0 h.1 (same_value bytes k.0 h.0 k.1 h.2) k.2 h.3)
+one_verdict bytes too_deep too_deep h k = refl
+one_verdict bytes too_deep bad_layout h k = absurd (deep_and_not h.1 k.1 (same_column bytes h.0 k.0 h.1 k.1 h.2 k.2 h.3 k.3) h.4 k.4)
+one_verdict bytes too_deep a_job h k = absurd (deep_and_not h.1 k.0 (same_column bytes h.0 k.1.value h.1 k.0 h.2 k.1.read_as h.3 k.1.is_column) h.4 k.1.shallow)
 one_verdict bytes bad_layout bad_layout h k = refl
-one_verdict bytes bad_layout a_job h k =
-    absurd (h.4 (subst WellFormed (same_column k.1.value h.0 k.0 h.1 (same_value bytes k.1.value h.0 k.1.read_as h.2) k.1.is_column h.3) k.1.sound))
-one_verdict bytes a_job too_long h k = absurd (omega (arith, k, h.1.read_as.short))
-one_verdict bytes a_job bad_text h k = absurd (unread bytes h.1.value h.1.read_as k)
-one_verdict bytes a_job bad_job h k = absurd (no_column k.0 h.1.value h.0 (same_value bytes k.0 h.1.value k.1 h.1.read_as) k.2 h.1.is_column)
-one_verdict bytes a_job bad_layout h k =
-    absurd (k.4 (subst WellFormed (same_column h.1.value k.0 h.0 k.1 (same_value bytes h.1.value k.0 h.1.read_as k.2) h.1.is_column k.3) h.1.sound))
+one_verdict bytes bad_layout a_job h k = absurd (h.5 (subst WellFormed (same_column bytes k.1.value h.0 k.0 h.1 k.1.read_as h.2 k.1.is_column h.3) k.1.sound))
 one_verdict bytes a_job a_job h k = refl
+one_verdict bytes bad_text too_long h k = absurd (omega (arith, k, h.0))
+one_verdict bytes bad_job too_long h k = absurd (omega (arith, k, h.1.short))
+one_verdict bytes too_deep too_long h k = absurd (omega (arith, k, h.2.short))
+one_verdict bytes bad_layout too_long h k = absurd (omega (arith, k, h.2.short))
+one_verdict bytes a_job too_long h k = absurd (omega (arith, k, h.1.read_as.short))
+one_verdict bytes bad_job bad_text h k = absurd (unread bytes h.0 h.1 k)
+one_verdict bytes too_deep bad_text h k = absurd (unread bytes h.0 h.2 k)
+one_verdict bytes bad_layout bad_text h k = absurd (unread bytes h.0 h.2 k)
+one_verdict bytes a_job bad_text h k = absurd (unread bytes h.1.value h.1.read_as k)
+one_verdict bytes too_deep bad_job h k = absurd (no_column k.0 h.0 h.1 (same_value bytes k.0 h.0 k.1 h.2) k.2 h.3)
+one_verdict bytes bad_layout bad_job h k = absurd (no_column k.0 h.0 h.1 (same_value bytes k.0 h.0 k.1 h.2) k.2 h.3)
+one_verdict bytes a_job bad_job h k = absurd (no_column k.0 h.1.value h.0 (same_value bytes k.0 h.1.value k.1 h.1.read_as) k.2 h.1.is_column)
+one_verdict bytes bad_layout too_deep h k = absurd (deep_and_not k.1 h.1 (same_column bytes k.0 h.0 k.1 h.1 k.2 h.2 k.3 h.3) k.4 h.4)
+one_verdict bytes a_job too_deep h k = absurd (deep_and_not k.1 h.0 (same_column bytes k.0 h.1.value k.1 h.0 k.2 h.1.read_as k.3 h.1.is_column) k.4 h.1.shallow)
+one_verdict bytes a_job bad_layout h k = absurd (k.5 (subst WellFormed (same_column bytes h.1.value k.0 h.0 k.1 h.1.read_as k.2 h.1.is_column k.3) h.1.sound))

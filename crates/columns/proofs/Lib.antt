@@ -2,14 +2,9 @@ pub mod BadParts
 pub mod CanonSteps
 pub mod ColumnText
 pub mod DataKinds
+pub mod Depths
 pub mod Equal
 pub mod Jobs
-pub mod ReadBack
 pub mod Readings
-pub mod Sound
-pub mod Spellings
+pub mod Stored
 pub mod Text
-pub mod Trailing
-pub mod TypeViews
-pub mod Utf8
-pub mod Walks

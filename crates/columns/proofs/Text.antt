@@ -6,13 +6,13 @@ use Rattle.serde_json.specs.Find.{is_float, of_integer}
 use Rattle.serde_json.specs.View.{items_of}
 use Rattle.serde_json.specs.Written.{has_float, items_have_float, compact_text}
 use Rattle.arrow_buffers.specs.Bits.{Bits}
-use Rattle.arrow_types.specs.TypeData.{TypeData}
-use Rattle.arrow_types.specs.TypeData as T
 use Rattle.arrow_types.specs.declared.datatype.PrimitiveType.{PrimitiveType}
 use Rattle.arrow_types.specs.declared.datatype.PrimitiveType.TheVariants as primitive
 use Rattle.arrow_meaning.specs.Forms.{form_of, primitive_by}
 use Rattle.arrow_meaning.specs.Layouts.{Layout, primitives, type_of}
-use Rattle.columns.specs.Json.{first_number, number_value, mask_value, data_value, type_value, column_value, column_text}
+use Rattle.columns.specs.Json.{first_number, number_value, mask_value, data_value, column_value, column_text}
+use Rattle.arrow_json.specs.TypeJson.{type_value}
+use Rattle.arrow_json.proofs.NoFloats.{type_no_float}
 
 integer_no_float : (z : ℤ) → is_float (of_integer z) ≡ false
 integer_no_float (pos n) = refl
@@ -37,10 +37,6 @@ primitives_no_float p m xs =
 data_no_float : (l : Layout) → has_float (data_value l) ≡ false
 data_no_float (primitives t m xs) = primitives_no_float (primitive_by (form_of t)) m xs
 data_no_float _ = refl
-
-type_no_float : (t : TypeData) → has_float (type_value t) ≡ false
-type_no_float T.int32 = refl
-type_no_float _ = refl
 
 column_no_float : (l : Layout) → has_float (column_value l) ≡ false
 column_no_float l =

@@ -3,6 +3,7 @@ use Rattle.std.specs.Prelude.{ℕ, ◌≡◌, ◌<◌, ◌≤◌, List, length, 
 use Rattle.std.specs.Str.{is_utf8}
 use Rattle.serde_json.specs.Data.{Data}
 use Rattle.serde_json.specs.Read.{read}
+use Rattle.arrow_types.specs.Depth.{depth_of}
 use Rattle.arrow_meaning.specs.Layouts.{Layout, type_of}
 use Rattle.arrow_meaning.specs.Denote.{denote}
 use Rattle.arrow_meaning.specs.WellFormed.{WellFormed}
@@ -12,6 +13,10 @@ use Rattle.columns.specs.Json.{column_of, column_text}
 -- the most bytes that a job may have
 abbrev pub limit : ℕ
 limit = 16777216
+
+-- how deep a type may be
+abbrev pub deepest : ℕ
+deepest = 32
 
 -- the JSON value that the bytes are, where they are UTF-8 and nest no deeper than 127
 unfoldable pub reading : List ℕ → Option Data
@@ -27,6 +32,7 @@ pub record IsJob (bytes : List ℕ) (c : Layout) : Type 0 where
   pub value : Data
   pub read_as : IsRead bytes value
   pub is_column : column_of value ≡ Some c
+  pub shallow : depth_of (type_of c) ≤ deepest
   pub sound : WellFormed c
 
 -- What bytes are: a job, or no job for one of these causes.
@@ -34,6 +40,7 @@ pub data Verdict : Type 0 where
   too_long : Verdict
   bad_text : Verdict
   bad_job : Verdict
+  too_deep : Verdict
   bad_layout : Verdict
   a_job : Verdict
 
@@ -43,8 +50,10 @@ IsOf too_long bytes = limit < length bytes
 IsOf bad_text bytes = (length bytes ≤ limit) × (reading bytes ≡ None)
 -- a value, but no column of the grammar
 IsOf bad_job bytes = (v : Data) × IsRead bytes v × (column_of v ≡ None)
--- a column of the grammar that isn't well formed
-IsOf bad_layout bytes = (v : Data) × (c : Layout) × IsRead bytes v × (column_of v ≡ Some c) × (WellFormed c → ⊥)
+-- a column of the grammar whose type is deeper
+IsOf too_deep bytes = (v : Data) × (c : Layout) × IsRead bytes v × (column_of v ≡ Some c) × (deepest < depth_of (type_of c))
+-- a column of the grammar, of a type that isn't deeper, that isn't well formed
+IsOf bad_layout bytes = (v : Data) × (c : Layout) × IsRead bytes v × (column_of v ≡ Some c) × (depth_of (type_of c) ≤ deepest) × (WellFormed c → ⊥)
 IsOf a_job bytes = (c : Layout) × IsJob bytes c
 
 -- the text of the canonical layout of a column's slots

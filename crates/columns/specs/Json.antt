@@ -1,36 +1,19 @@
--- A column as a JSON value: `{"data":{"mask":M,"values":[v..]},"type":"int32"}`.
-use Rattle.std.specs.Prelude.{ℕ, List, [], ◌∷◌, ◌++◌, map, Bool, true, false, ◌&&◌, ◌==◌, ℤ, pos, negsuc, int_le, if◌then◌else◌, Option, Some, None, is_some, unwrap_or, option_map, option_and_then, codes, bytes_eq}
-use Rattle.std.specs.Option.{option_zip}
-use Rattle.serde_json.specs.Data.{Data, null, number, string, array, object, Items, no_items, item, no_members, member}
-use Rattle.serde_json.specs.Find.{as_i64, as_number, as_str, as_array, as_null, as_object, of_integer, get}
-use Rattle.serde_json.specs.Events.{members_len}
+-- A column as a JSON value: `{"data":{"mask":M,"values":[v..]},"type":T}`.
+use Rattle.std.specs.Prelude.{ℕ, List, [], ◌∷◌, ◌++◌, map, Bool, true, false, ◌&&◌, ◌==◌, ℤ, pos, negsuc, int_le, if◌then◌else◌, Option, Some, None, is_some, option_map, option_and_then, codes}
+use Rattle.serde_json.specs.Data.{Data, null, number, string, array, object, no_members, member}
+use Rattle.serde_json.specs.Find.{as_i64, as_number, as_str, as_array, as_null, of_integer}
 use Rattle.serde_json.specs.View.{items_of}
 use Rattle.serde_json.specs.Written.{compact_text}
 use Rattle.arrow_buffers.specs.Bits.{Bits, plain}
 use Rattle.arrow_types.specs.TypeData.{TypeData}
-use Rattle.arrow_types.specs.TypeData as T
 use Rattle.arrow_types.specs.declared.datatype.PrimitiveType.{PrimitiveType}
 use Rattle.arrow_types.specs.declared.datatype.PrimitiveType.TheVariants as primitive
 use Rattle.arrow_meaning.specs.Forms.{Form, primitives_of, form_of, primitive_by}
 use Rattle.arrow_meaning.specs.Layouts.{Layout, primitives, type_of}
+use Rattle.arrow_json.specs.Values.{traverse, list_of, two_members}
+use Rattle.arrow_json.specs.TypeJson.{type_in, type_value}
 
 -- ---- from a value
-
--- what f gives for each of the list, if it gives something for all
-abbrev pub traverse : {A B : Type 0} → (A → Option B) → List A → Option (List B)
-traverse f [] = Some []
-traverse f (x ∷ xs) = option_and_then (λ y. option_map (λ ys. y ∷ ys) (traverse f xs)) (f x)
-
-abbrev pub list_of : Items → List Data
-list_of no_items = []
-list_of (item d ds) = d ∷ list_of ds
-
--- the values at these two keys, of an object that has no other key
-abbrev pub two_members : List ℕ → List ℕ → Data → Option (Data × Data)
-two_members k l d = if unwrap_or (option_map members_len (as_object d)) 0 == 2 then option_zip (get k d) (get l d) else None
-
-abbrev pub is_text : List ℕ → Data → Bool
-is_text text d = unwrap_or (option_map (λ s. bytes_eq s text) (as_str d)) false
 
 abbrev pub bit_of : ℕ → Option Bool
 bit_of c = if c == 49 then Some true else (if c == 48 then Some false else None)
@@ -63,9 +46,6 @@ data_by _ t d = None
 -- the data of a column of the type, where it is one that is stored as 32-bit integers
 abbrev pub data_in : TypeData → Data → Option Layout
 data_in t d = data_by (form_of t) t d
-
-unfoldable pub type_in : Data → Option TypeData
-type_in d = if is_text (codes "int32") d then Some T.int32 else None
 
 abbrev pub column_from : Data × Data → Option Layout
 column_from d = option_and_then (λ t. data_in t d.0) (type_in d.1)
@@ -101,10 +81,6 @@ primitives_value p m xs =
 abbrev pub data_value : Layout → Data
 data_value (primitives t m xs) = primitives_value (primitive_by (form_of t)) m xs
 data_value _ = null
-
-abbrev pub type_value : TypeData → Data
-type_value T.int32 = string (codes "int32")
-type_value _ = null
 
 abbrev pub column_value : Layout → Data
 column_value l = object (member (codes "data") (data_value l) (member (codes "type") (type_value (type_of l)) no_members))

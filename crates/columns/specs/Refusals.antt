@@ -1,11 +1,12 @@
 -- What a refusal says of the bytes.
 use Rattle.std.specs.Prelude.{Option, Some, None}
 use Rattle.columns.specs.declared.job.Refusal.{Refusal}
-use Rattle.columns.specs.declared.job.Refusal.TheVariants.{BadText, BadJob, BadLayout, OutOfMemory}
-use Rattle.columns.specs.Job.{Verdict, bad_text, bad_job, bad_layout}
+use Rattle.columns.specs.declared.job.Refusal.TheVariants.{BadText, BadJob, TooDeep, BadLayout, OutOfMemory}
+use Rattle.columns.specs.Job.{Verdict, bad_text, bad_job, too_deep, bad_layout}
 
 abbrev pub refusal_of : Refusal → Option Verdict
 refusal_of BadText = Some bad_text
 refusal_of BadJob = Some bad_job
+refusal_of TooDeep = Some too_deep
 refusal_of BadLayout = Some bad_layout
 refusal_of OutOfMemory = None

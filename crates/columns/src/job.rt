@@ -10,6 +10,7 @@ ghost use Rattle.columns.specs.Refusals.{refusal_of};
 ghost use Rattle.columns.specs.declared.job.Refusal.TheVariants.{OutOfMemory};
 
 use crate::canonical::canonical;
+use crate::depth::is_within;
 use crate::outcome::Outcome;
 use crate::outside::{ReadError, Sink, Source, read_all, write_all};
 use crate::reader::{JobError, LayoutError, array_of, column_of};
@@ -17,6 +18,9 @@ use crate::writer::column_text;
 use arrow_meaning::ArrayRef;
 use serde_json::Value;
 use std::alloc::{AllocError, Global};
+
+/// How deep the type of a column may be.
+const DEEPEST: usize = 32;
 
 /// Whether the words are the one word `canon`.
 fn is_canon(words: &[String]) -> bool
@@ -60,6 +64,8 @@ pub enum Refusal {
     BadText,
     /// The value is no column of the grammar.
     BadJob,
+    /// The column's type is deeper than 32 levels.
+    TooDeep,
     /// The column isn't well formed.
     BadLayout,
     /// Memory ran out.
@@ -90,6 +96,9 @@ fn column_in(alloc: Global, bytes: &[u8]) -> Result<ArrayRef, Refusal>
         Err(JobError::BadJob) => return Err(Refusal::BadJob),
         Err(JobError::OutOfMemory) => return Err(Refusal::OutOfMemory),
     };
+    if !is_within(&column.dtype, DEEPEST) {
+        return Err(Refusal::TooDeep);
+    }
     match array_of(alloc, column) {
         Ok(array) => Ok(array),
         Err(LayoutError::BadLayout) => Err(Refusal::BadLayout),
@@ -158,6 +167,7 @@ pub fn run<S: Source, K: Sink>(
         Ok(text) => text,
         Err(Refusal::BadText) => return Outcome::BadText,
         Err(Refusal::BadJob) => return Outcome::BadJob,
+        Err(Refusal::TooDeep) => return Outcome::TooDeep,
         Err(Refusal::BadLayout) => return Outcome::BadLayout(0),
         Err(Refusal::OutOfMemory) => return Outcome::OutOfMemory,
     };

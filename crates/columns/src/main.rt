@@ -2,6 +2,7 @@
 #![tactic(auto)]
 
 mod canonical;
+mod depth;
 mod job;
 mod laws;
 mod memory;

@@ -16,6 +16,8 @@ pub enum Outcome {
     BadLayout(usize),
     /// The source gave more bytes than a job may have.
     TooLong,
+    /// The type of a column is deeper than 32 levels.
+    TooDeep,
     /// The source failed.
     ReadFault,
     /// The sink failed; it holds a front of the output.
@@ -37,6 +39,7 @@ pub fn outcome_text(outcome: &Outcome) -> &str
         Outcome::BadJob => "bad job",
         Outcome::BadLayout(_) => "bad layout",
         Outcome::TooLong => "too long",
+        Outcome::TooDeep => "too deep",
         Outcome::ReadFault => "read fault",
         Outcome::WriteFault => "write fault",
         Outcome::OutOfMemory => "out of memory",
@@ -54,6 +57,7 @@ pub fn status(outcome: &Outcome) -> u8
         Outcome::BadJob => 4,
         Outcome::BadLayout(_) => 5,
         Outcome::TooLong => 6,
+        Outcome::TooDeep => 7,
         Outcome::ReadFault => 20,
         Outcome::WriteFault => 21,
         Outcome::OutOfMemory => 30,

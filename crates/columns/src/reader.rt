@@ -7,12 +7,15 @@ ghost use Rattle.arrow_types.specs.declared.datatype.PrimitiveType.TheVariants a
 ghost use Rattle.arrow_flat.specs.Natives.{signed};
 ghost use Rattle.arrow_buffers.specs.Bits.{plain};
 ghost use Rattle.arrow_meaning.specs.WellFormed.{WellFormed};
-ghost use Rattle.columns.specs.Json.{traverse, bit_of, two_members, is_text, mask_in, number_in, numbers_in, primitives_in, data_in, type_in, column_of};
+ghost use Rattle.arrow_json.specs.Values.{traverse, two_members};
+ghost use Rattle.arrow_json.specs.TypeJson.{type_in};
+ghost use Rattle.columns.specs.Json.{bit_of, mask_in, number_in, numbers_in, primitives_in, data_in, column_of};
 ghost use Rattle.columns.specs.Parts.{layout_of, IsInt32Type};
 ghost use Rattle.columns.specs.declared.reader.JobError.TheVariants.{OutOfMemory};
 
 use arrow_buffers::{Bitmap, Buffer};
 use arrow_flat::PrimitiveArray;
+use arrow_json::{JsonError, type_of};
 use arrow_meaning::{ArrayRef, Node, PrimitiveNode};
 use arrow_types::{ArrowDataType, PrimitiveType};
 use serde_json::Value;
@@ -63,16 +66,6 @@ fn two_members<'v>(value: &'v Value, first: &str, second: &str) -> Option<(&'v V
     let left = value.get(first)?;
     let right = value.get(second)?;
     Some((left, right))
-}
-
-/// Whether the value is this text.
-fn is_text(value: &Value, text: &str) -> bool
-    ensures { result ≡ is_text text.now (view value.now) }
-{
-    match value.as_str() {
-        Some(found) => found == text,
-        None => false,
-    }
 }
 
 /// The bit of a character `0` or `1`.
@@ -159,14 +152,14 @@ fn numbers_in(alloc: Global, value: &Value) -> Result<Vec<i32>, JobError>
 }
 
 /// The type that a value spells.
-#[tactic(auto, using(crate::proofs::TypeViews::seen_types), unfolding(crate::specs::Json::type_in))]
-fn type_in(value: &Value) -> Option<ArrowDataType>
-    ensures { option_map seen result ≡ type_in (view value.now) }
+fn type_in(alloc: Global, value: &Value) -> Result<ArrowDataType, JobError>
+    ensures ok { IfOk result (λ t. type_in (view value.now) ≡ Some (seen t)) }
+    ensures bad { IsErrOf result JobError.BadJob → type_in (view value.now) ≡ None }
 {
-    if is_text(value, "int32") {
-        Some(ArrowDataType::Int32)
-    } else {
-        None
+    match type_of(alloc, value) {
+        Ok(dtype) => Ok(dtype),
+        Err(JsonError::NoType) => Err(JobError::BadJob),
+        Err(JsonError::OutOfMemory) => Err(JobError::OutOfMemory),
     }
 }
 
@@ -223,9 +216,7 @@ pub fn column_of(alloc: Global, value: &Value) -> Result<Column, JobError>
     let Some((data, name)) = two_members(value, "data", "type") else {
         return Err(JobError::BadJob);
     };
-    let Some(dtype) = type_in(name) else {
-        return Err(JobError::BadJob);
-    };
+    let dtype = type_in(alloc, name)?;
     data_in(alloc, dtype, data)
 }
 

@@ -62,7 +62,22 @@ fn each_input_has_its_outcome(rt: HostRuntime) -> Result<(), Fail> {
             "{\"data\":{\"mask\":null,\"values\":[-2147483648,2147483647]},\"type\":\"int32\"}\n",
         ),
         (
+            "{\"data\":{\"mask\":null,\"values\":[7]},\"type\":[\"extension\",\"x\",\"date32\",null]}",
+            Outcome::Done,
+            "{\"data\":{\"mask\":null,\"values\":[7]},\"type\":[\"extension\",\"x\",\"date32\",null]}\n",
+        ),
+        (
             "{\"data\":{\"mask\":null,\"values\":[1]},\"type\":\"int33\"}",
+            Outcome::BadJob,
+            "",
+        ),
+        (
+            "{\"data\":{\"mask\":null,\"values\":[1]},\"type\":\"int64\"}",
+            Outcome::BadJob,
+            "",
+        ),
+        (
+            "{\"data\":{\"mask\":null,\"values\":[1]},\"type\":[\"list\",[\"item\",\"int32\",true,null]]}",
             Outcome::BadJob,
             "",
         ),
@@ -146,6 +161,38 @@ fn bytes_at_the_limits_have_their_outcome(rt: HostRuntime) -> Result<(), Fail> {
         let found = run(alloc, words.as_slice(), &mut source, &mut sink);
         assert_eq!(rt; found, outcome);
         assert_eq!(rt; sink.held().len(), 0);
+    }
+    Ok(())
+}
+
+// A column of this type inside of so many extensions.
+fn nested(alloc: Global, inner: &str, depth: usize) -> Result<Vec<u8>, AllocError> {
+    let mut text = String::from_str(alloc, "{\"data\":{\"mask\":null,\"values\":[1]},\"type\":")?;
+    for _ in 0..depth {
+        text.push_str("[\"extension\",\"x\",")?;
+    }
+    text.push_str(inner)?;
+    for _ in 0..depth {
+        text.push_str(",null]")?;
+    }
+    text.push_str("}")?;
+    text.as_bytes().to_vec(alloc)
+}
+
+#[test]
+fn the_depth_of_a_type_has_a_limit(rt: HostRuntime) -> Result<(), Fail> {
+    let alloc = rt.alloc();
+    let words = words_of(alloc, &["canon"])?;
+    for (inner, depth, outcome) in [
+        ("\"int32\"", 31, Outcome::Done),
+        ("\"int32\"", 32, Outcome::TooDeep),
+        ("\"utf8\"", 32, Outcome::BadJob),
+    ] {
+        let mut source = PlainSource::new(nested(alloc, inner, depth)?);
+        let mut sink = PlainSink::new(vec![in alloc; 0; 1024]?);
+        let found = run(alloc, words.as_slice(), &mut source, &mut sink);
+        assert_eq!(rt; found, outcome);
+        assert_eq!(rt; sink.held().is_empty(), outcome != Outcome::Done);
     }
     Ok(())
 }

@@ -3,17 +3,17 @@ ghost use Rattle.std.specs.Prelude.{◌≡◌, [], ◌∷◌, map, string_bytes,
 ghost use Rattle.std.specs.Int.{w32};
 ghost use Rattle.serde_json.specs.View.{view};
 ghost use Rattle.arrow_types.specs.declared.datatype.PrimitiveType.TheVariants as primitive;
-ghost use Rattle.arrow_types.specs.Seen.{seen};
 ghost use Rattle.arrow_buffers.specs.Bits.{Bits};
 ghost use Rattle.arrow_flat.specs.Natives.{signed};
 ghost use Rattle.arrow_flat.specs.Primitives.{seen_mask};
-ghost use Rattle.columns.specs.Json.{bit_char, mask_value, numbers_value, primitives_value, data_value, type_value, column_value, column_text};
+ghost use Rattle.columns.specs.Json.{bit_char, mask_value, numbers_value, primitives_value, data_value, column_value, column_text};
 
 use crate::canonical::int32s;
 use arrow_buffers::Bitmap;
 use arrow_flat::PrimitiveArray;
+use arrow_json::type_json;
 use arrow_meaning::ArrayRef;
-use arrow_types::{ArrowDataType, Mem};
+use arrow_types::Mem;
 use serde_json::{Value, json};
 use std::alloc::Global;
 
@@ -71,16 +71,6 @@ fn data_json(alloc: Global, array: &ArrayRef) -> Mem<Value>
     let numbers = int32s(array);
     numbers.dtype();
     primitive_json(alloc, numbers)
-}
-
-#[tactic(auto, using(crate::proofs::TypeViews::seen_types))]
-fn type_json(alloc: Global, dtype: &ArrowDataType) -> Mem<Value>
-    ensures { IfOk result (λ v. view v ≡ type_value (seen dtype.now)) }
-{
-    match dtype {
-        ArrowDataType::Int32 => json!(in alloc; "int32"),
-        _ => Ok(Value::Null),
-    }
 }
 
 fn column_json(alloc: Global, array: &ArrayRef) -> Mem<Value>

@@ -1,7 +1,9 @@
-use Rattle.std.proofs.Common.{◌≡◌}
+use Rattle.std.proofs.Common.{subst}
+use Rattle.std.specs.Prelude.{IfSome}
 use Rattle.std.specs.Io.KnownBytes.{Appends}
 use Rattle.columns.specs.Causes.{AppendsFront}
-use Rattle.columns.specs.Job.{a_job}
+use Rattle.columns.specs.Job.{bad_layout, a_job, IsOf}
+use Rattle.columns.specs.Refusals.{refusal_of}
 use Rattle.columns.proofs.Jobs.{verdict_of_taken, written_of_taken}
 use Rattle.columns.proofs.job.run.Goals as goal
 
@@ -28,3 +30,9 @@ returns-clause-verdict g c =
     let read = c.in-Ok.ensures.whole in
     let job = c.in-Ok-answer.ensures.ok in
     verdict_of_taken a_job _ _ c.in-Ok.bytes.items c.deref.result.now read.0 read.1 c.deref.ensures.value (job.0, job.1)
+
+pub returns-in-Err-BadLayout-clause-verdict : goal.returns-in-Err-BadLayout-clause-verdict
+returns-in-Err-BadLayout-clause-verdict g c =
+    let read = c.in-Ok.ensures.whole in
+    verdict_of_taken bad_layout _ _ c.in-Ok.bytes.items c.deref.result.now read.0 read.1 c.deref.ensures.value
+    (subst (λ e. IfSome (refusal_of e) (λ v. IsOf v c.deref.result.now)) c.in-Err-BadLayout.field-0-is c.in-Err-BadLayout.ensures.bad)

@@ -1,6 +1,6 @@
 use Rattle.std.proofs.Common.{arith, sym, ap, ◌∙◌, Some}
 use Rattle.columns.specs.Json.{bit_of}
-use Rattle.columns.proofs.Walks.{traverse-none, traverse-more}
+use Rattle.arrow_json.proofs.Walks.{traverse-none, traverse-more}
 use Rattle.columns.proofs.reader.bits_of.Goals as goal
 
 pub returns-in_default-clause-bad : goal.returns-in_default-clause-bad

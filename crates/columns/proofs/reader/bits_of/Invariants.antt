@@ -1,5 +1,6 @@
 use Rattle.std.proofs.Common.{◌≡◌, take, Some}
-use Rattle.columns.specs.Json.{traverse, bit_of}
+use Rattle.arrow_json.specs.Values.{traverse}
+use Rattle.columns.specs.Json.{bit_of}
 use Rattle.columns.proofs.reader.bits_of.Given as goal
 
 abbrev pub invariant-loop-byte : goal.invariant-loop-byte

@@ -6,7 +6,7 @@ use Rattle.serde_json.specs.View.{view}
 use Rattle.arrow_types.specs.declared.datatype.PrimitiveType.TheVariants as primitive
 use Rattle.arrow_flat.specs.Natives.{signed}
 use Rattle.columns.specs.Json.{number_in}
-use Rattle.columns.proofs.Walks.{traverse_map-none, traverse_map-more}
+use Rattle.arrow_json.proofs.Walks.{traverse_map-none, traverse_map-more}
 use Rattle.columns.proofs.reader.int32_list.Goals as goal
 
 pub returns-in_default-clause-bad : goal.returns-in_default-clause-bad

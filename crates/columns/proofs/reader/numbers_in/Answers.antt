@@ -2,8 +2,9 @@ use Rattle.std.proofs.Common.{sym, ◌∙◌, ap, ◌≡◌}
 use Rattle.std.specs.Prelude.{map, option_and_then}
 use Rattle.serde_json.specs.View.{view}
 use Rattle.arrow_types.specs.declared.datatype.PrimitiveType.TheVariants as primitive
-use Rattle.columns.specs.Json.{numbers_in, traverse, list_of, number_in}
-use Rattle.columns.proofs.Walks.{list_of-items_of}
+use Rattle.arrow_json.specs.Values.{traverse, list_of}
+use Rattle.columns.specs.Json.{numbers_in, number_in}
+use Rattle.arrow_json.proofs.Walks.{list_of-items_of}
 use Rattle.columns.proofs.reader.numbers_in.Goals as goal
 
 same : (c : goal.After-int32_list) → numbers_in primitive.Int32 (view c.args.value.now) ≡ traverse (number_in primitive.Int32) (map view c.as_slice.result.now)

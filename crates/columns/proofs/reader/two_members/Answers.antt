@@ -2,7 +2,7 @@ use Rattle.std.proofs.Common.{sym, ◌∙◌, ◌≡◌}
 use Rattle.serde_json.specs.Events.{members_len}
 use Rattle.serde_json.specs.View.{view, members_view}
 use Rattle.serde_json.proofs.Views.{members_len-members_view}
-use Rattle.columns.proofs.Walks.{two_members-other, two_members-found}
+use Rattle.arrow_json.proofs.Walks.{two_members-other, two_members-found}
 use Rattle.columns.proofs.reader.two_members.Goals as goal
 
 pub returns-then-len-ne2 : goal.returns-then-len-ne2

@@ -11,7 +11,7 @@ use Rattle.serde_json.specs.Data.{Data, null, boolean, number, string, array, ob
 use Rattle.serde_json.specs.Read.{read, max_depth, of_json}
 use Rattle.serde_json.specs.Written.{outline, items_outline, members_outline, compact_text}
 use Rattle.serde_json.proofs.Texts.{print-outline}
-use Rattle.columns.proofs.Trailing.{tokens_more}
+use Rattle.arrow_json.proofs.Trailing.{tokens_more}
 
 -- ---- depth
 

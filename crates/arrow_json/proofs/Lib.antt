@@ -1,0 +1,13 @@
+pub mod MapBack
+pub mod NoFloats
+pub mod Parts
+pub mod ReadBack
+pub mod Sound
+pub mod Told
+pub mod Trailing
+pub mod TypeBack
+pub mod TypeDepth
+pub mod TypeWritten
+pub mod Utf8
+pub mod Walks
+pub mod Written

@@ -1,0 +1,3 @@
+pub mod Texts
+pub mod TypeJson
+pub mod Values

@@ -1,0 +1,5 @@
+use Rattle.columns.proofs.Equal.{equal_texts, same_texts}
+use Rattle.columns.proofs.laws.texts_tell_columns.Goals as goal
+
+pub returns : goal.returns
+returns c = λ t u s r ht hu hs hr. (equal_texts t u s r ht hu hs hr, same_texts t u s r)
