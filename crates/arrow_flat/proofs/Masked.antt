@@ -1,8 +1,33 @@
 -- Slots of values under a mask.
-use Rattle.std.proofs.Common.{◌≡◌, ℕ, ◌+◌, ◌-◌, ◌<◌, zero, suc, Bool, false, cond, List, [], ◌∷◌, ◌++◌, map, length, take, drop, get_or, slice_get, refl, ap, ◌∙◌, arith, add-one, Option, Some, None}
+use Rattle.std.proofs.Common.{◌≡◌, ℕ, ◌+◌, ◌-◌, ◌<◌, ◌≤◌, zero, suc, Bool, false, cond, List, [], ◌∷◌, ◌++◌, map, length, take, drop, get_or, slice_get, refl, ap, sym, ◌∙◌, arith, add-one, lit<, Option, Some, None}
 use Rattle.std.specs.Simd.Lanes.{zip2}
-use Rattle.arrow_buffers.specs.Bits.{Bits}
-use Rattle.arrow_flat.specs.Primitives.{MaskFits, masked, valid_at}
+use Rattle.std.proofs.lemmas.Nat.{mod_below}
+use Rattle.arrow_buffers.specs.Bits.{Bits, lead_of}
+use Rattle.arrow_buffers.proofs.Windows.{window_length}
+use Rattle.arrow_flat.specs.Primitives.{MaskFits, IsLed, HasBit, HasRange, cut_mask, masked, valid_at}
+
+-- ---- a mask that fits
+pub has_bit : (m : Option Bits) (n i : ℕ) → MaskFits m n → i < n → HasBit m i
+has_bit None n i h l = tt
+has_bit (Some b) n i h l = omega arith
+
+pub has_range : (m : Option Bits) (n o k : ℕ) → MaskFits m n → o + k ≤ n → HasRange m o k
+has_range None n o k h l = tt
+has_range (Some b) n o k h l = omega arith
+
+pub cut_fits : (m : Option Bits) (n o k : ℕ) → MaskFits m n → o + k ≤ n → MaskFits (cut_mask m o k) k
+cut_fits None n o k h l = tt
+cut_fits (Some b) n o k h l = sym (window_length b.bits o k (omega arith))
+
+led_below : (start n : ℕ) → lead_of start n < 8
+led_below start zero = lit< tt
+led_below start (suc n) = mod_below start 8 (lit< tt)
+
+pub cut_led : (m : Option Bits) (o k : ℕ) → IsLed (cut_mask m o k)
+cut_led None o k = tt
+cut_led (Some b) o k = led_below (b.lead + o) k
+
+-- ---- slots
 
 module _ {T : Type 0} where
   abbrev under : Bool → T → Option T

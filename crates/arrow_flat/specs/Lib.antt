@@ -1,10 +1,15 @@
+pub mod Binaries
+pub mod Booleans
+pub mod FixedSizeBinaries
 pub mod Natives
 pub mod NativesFit
 pub mod Numbers
 pub mod Packs
+pub mod Pieces
 pub mod Primitives
 pub mod Refusals
 pub mod SlotCode
 pub mod Slots
+pub mod Texts
 pub mod ViewCode
 pub mod Views

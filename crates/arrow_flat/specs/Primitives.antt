@@ -1,12 +1,13 @@
 -- What a contract sees of an array of fixed-width values.
-use Rattle.std.specs.Prelude.{◌≡◌, ◌<◌, ℕ, Bool, true, false, cond, List, length, map, get_or, Option, Some, None}
+use Rattle.std.specs.Prelude.{◌≡◌, ◌+◌, ◌<◌, ◌≤◌, ℕ, Bool, true, false, cond, List, length, take, drop, map, get_or, Option, Some, None}
 use Rattle.std.specs.Borrow.{Bor}
 use Rattle.std.specs.Simd.Lanes.{zip2}
-use Rattle.arrow_buffers.specs.Bits.{Bits}
+use Rattle.arrow_buffers.specs.Bits.{Bits, cut_bits, count_unset}
 use Rattle.arrow_types.specs.Carried.{IsCarried}
 use Rattle.arrow_types.specs.Seen.{seen}
 use Rattle.arrow_types.specs.Types.{physical_of}
 use Rattle.arrow_types.specs.declared.datatype.ArrowDataType.{ArrowDataType}
+use Rattle.arrow_types.specs.declared.datatype.PhysicalType.{PhysicalType}
 use Rattle.arrow_types.specs.declared.datatype.PhysicalType.TheVariants as physical
 use Rattle.arrow_types.specs.declared.datatype.PrimitiveType.{PrimitiveType}
 
@@ -26,12 +27,35 @@ abbrev pub IsLed : Option Bits → Type 0
 IsLed None = Unit {0}
 IsLed (Some b) = b.lead < 8
 
--- What every array keeps: a mask for its slots, and a type that columns have and that is stored as values of this type.
-pub record IsSound (p : PrimitiveType) (t : ArrowDataType) (m : Option Bits) (n : ℕ) : Type 0 where
+-- A mask has a bit at i, or those of n slots from `offset` on, if there is one.
+abbrev pub HasBit : Option Bits → ℕ → Type 0
+HasBit None i = Unit {0}
+HasBit (Some b) i = i < length b.bits
+
+abbrev pub HasRange : Option Bits → ℕ → ℕ → Type 0
+HasRange None offset n = Unit {0}
+HasRange (Some b) offset n = offset + n ≤ length b.bits
+
+-- The mask of n slots from `offset` on.
+abbrev pub cut_mask : Option Bits → ℕ → ℕ → Option Bits
+cut_mask None offset n = None
+cut_mask (Some b) offset n = Some (cut_bits b offset n)
+
+-- How many slots are null.
+abbrev pub unset_in : Option Bits → ℕ
+unset_in None = 0
+unset_in (Some b) = count_unset b.bits
+
+-- What every array keeps: a mask for its slots, and a type that columns have and that is stored in this layout.
+pub record IsArray (layout : PhysicalType) (t : ArrowDataType) (m : Option Bits) (n : ℕ) : Type 0 where
   pub fits : MaskFits m n
   pub led : IsLed m
-  pub stored : physical_of (seen t) ≡ Some (physical.Primitive p)
+  pub stored : physical_of (seen t) ≡ Some layout
   pub carried : IsCarried (seen t)
+
+-- Of values of this type.
+abbrev pub IsSound : PrimitiveType → ArrowDataType → Option Bits → ℕ → Type 0
+IsSound p t m n = IsArray (physical.Primitive p) t m n
 
 abbrev pub valid_at : Option Bits → ℕ → Bool
 valid_at None i = true
@@ -50,3 +74,7 @@ module _ {T : Type 0} where
 
   abbrev pub slots : Primitives T → List (Option T)
   slots a = masked a.mask a.values
+
+  -- The array of n slots from `offset` on.
+  abbrev pub cut : Primitives T → ℕ → ℕ → Primitives T
+  cut a offset n = record { dtype = a.dtype; values = take n (drop offset a.values); mask = cut_mask a.mask offset n }

@@ -1,15 +1,15 @@
 //! Arrays of fixed-width values under a mask.
-ghost use Rattle.std.specs.Prelude.{◌≡◌, ◌+◌, ◌<◌, ◌≤◌, length as count, slice_get, true, Some, Decides, MatchResult};
-ghost use Rattle.arrow_types.specs.Carried.{IsCarried};
-ghost use Rattle.arrow_types.specs.Seen.{seen};
-ghost use Rattle.arrow_types.specs.Types.{physical_of};
+ghost use Rattle.std.specs.Prelude.{◌≡◌, ◌+◌, ◌<◌, ◌≤◌, length as count, slice_get, not, Some, MatchResult, IfOk};
 ghost use Rattle.arrow_types.specs.declared.datatype.PhysicalType.TheVariants as physical;
-ghost use Rattle.arrow_flat.specs.Natives.{IsNative, IsStoredNative};
-ghost use Rattle.arrow_flat.specs.Primitives.{MaskFits, IsLed, IsSound};
+ghost use Rattle.arrow_flat.specs.Primitives.{MaskFits, IsSound};
 
-use crate::{NativeType, PrimitiveIter};
+use crate::native::{DaysMs, MonthDayNano, NativeType};
+use crate::stored::is_stored_as;
+use crate::validity::{clone_mask, is_valid, know_led, mask_fits, null_count, slice_mask};
+use crate::{PrimitiveIter, PrimitiveValuesIter};
 use arrow_buffers::{Bitmap, Buffer};
-use arrow_types::{ArrowDataType, PolarsError, PolarsResult, PrimitiveType, Reason};
+use arrow_types::{ArrowDataType, Mem, PolarsError, PolarsResult, Reason};
+use std::alloc::Global;
 use std::marker::Model;
 
 /// An array of values of one width, seen as its type, its values and its mask.
@@ -38,7 +38,7 @@ impl<T: NativeType> Model for PrimitiveArray<T> {
 }
 
 impl<T: NativeType> PrimitiveArray<T> {
-    ghost use Rattle.arrow_flat.specs.Primitives.{Primitives, slots, valid_at, seen_mask};
+    ghost use Rattle.arrow_flat.specs.Primitives.{Primitives, slots, valid_at, unset_in, cut, seen_mask};
     ghost use Rattle.arrow_flat.specs.Refusals.{Refused};
 
     /// The array of these parts. Refused as ComputeError(MaskLength) where a mask is there and hasn't one bit a value, then as
@@ -52,7 +52,7 @@ impl<T: NativeType> PrimitiveArray<T> {
     ) -> PolarsResult<PrimitiveArray<T>>
         ensures { MatchResult result
             (λ a. (a ≡ record { dtype = dtype; values = values; mask = validity }) × IsSound T.PRIMITIVE dtype validity (count values))
-            (λ e. Refused e T.PRIMITIVE dtype validity (count values)) }
+            (λ e. Refused e (physical.Primitive T.PRIMITIVE) dtype validity (count values)) }
     {
         if !mask_fits(&validity, values.len()) {
             return Err(PolarsError::ComputeError(Reason::MaskLength));
@@ -109,10 +109,22 @@ impl<T: NativeType> PrimitiveArray<T> {
         requires { i < count self.now.values }
         ensures { result ≡ valid_at self.now.mask i }
     {
-        match &self.validity {
-            None => true,
-            Some(mask) => mask.get_bit(i),
-        }
+        is_valid(&self.validity, i)
+    }
+
+    /// Whether the slot is null.
+    pub fn is_null(&self, i: usize) -> bool
+        requires { i < count self.now.values }
+        ensures { result ≡ not (valid_at self.now.mask i) }
+    {
+        !self.is_valid(i)
+    }
+
+    /// The count of nulls.
+    pub fn null_count(&self) -> usize
+        ensures { result ≡ unset_in self.now.mask }
+    {
+        null_count(&self.validity)
     }
 
     /// The value at a slot, None where it is null.
@@ -139,43 +151,80 @@ impl<T: NativeType> PrimitiveArray<T> {
             back: self.len(),
         }
     }
-}
 
-/// Whether a mask, if there is one, has this length.
-fn mask_fits(validity: &Option<Bitmap>, length: usize) -> bool
-    ensures fits { Decides result (MaskFits validity.now length) }
-    ensures led { IsLed validity.now }
-{
-    match validity {
-        None => true,
-        Some(mask) => mask.len() == length,
-    }
-}
-
-/// Whether the type is stored as values of the primitive type, which columns hold.
-fn is_stored_as(dtype: &ArrowDataType, primitive: PrimitiveType) -> bool
-    requires { IsNative primitive }
-    ensures stored { Decides result (physical_of (seen dtype.now) ≡ Some (physical.Primitive primitive)) }
-    ensures carried { result ≡ true → IsCarried (seen dtype.now) }
-{
-    know_carried(dtype);
-    match dtype.to_physical_type() {
-        Some(stored) => stored.eq_primitive(primitive),
-        None => false,
-    }
-}
-
-/// Tells a caller that columns have each type that is stored as their values. It does nothing.
-#[tactic(auto, using(crate::proofs::TypeViews::seen_types))]
-fn know_carried(dtype: &ArrowDataType)
-    ensures { IsStoredNative (physical_of (seen dtype.now)) → IsCarried (seen dtype.now) }
-{
-    match dtype {
-        ArrowDataType::Decimal(precision, scale) => {
-            let _precision = *precision;
-            let _scale = *scale;
+    /// Each value in order, those under nulls too, from both ends.
+    pub fn values_iter(&self) -> PrimitiveValuesIter<'_, T>
+        ensures { result ≡ self.now.values }
+    {
+        PrimitiveValuesIter {
+            values: self.values.as_slice(),
+            front: 0,
+            back: self.len(),
         }
-        ArrowDataType::Extension(extension) => know_carried(&extension.get().inner),
-        _ => {}
+    }
+
+    /// Keeps the `length` slots from `offset` on.
+    pub fn slice(&mut self, offset: usize, length: usize)
+        requires { offset + length ≤ count self.old.values }
+        ensures { self.new ≡ cut self.old offset length }
+    {
+        slice_mask(&mut self.validity, offset, length);
+        self.values.slice(offset, length);
+    }
+
+    /// Puts another mask, or none, in the mask's place.
+    pub fn set_validity(&mut self, validity: Option<Bitmap>)
+        requires { MaskFits validity (count self.old.values) }
+        ensures { self.new ≡ record { dtype = self.old.dtype; values = self.old.values; mask = validity } }
+    {
+        know_led(&validity);
+        self.validity = validity;
+    }
+
+    /// Another owner of the same values and mask.
+    pub fn try_clone(&self, alloc: Global) -> Mem<PrimitiveArray<T>>
+        ensures { IfOk result (λ a. a ≡ self.now) }
+    {
+        Ok(PrimitiveArray {
+            dtype: self.dtype.try_clone(alloc)?,
+            values: self.values.try_clone(alloc)?,
+            validity: clone_mask(alloc, &self.validity)?,
+        })
     }
 }
+
+/// An array of `i8`.
+pub type Int8Array = PrimitiveArray<i8>;
+
+/// An array of `i16`.
+pub type Int16Array = PrimitiveArray<i16>;
+
+/// An array of `i32`.
+pub type Int32Array = PrimitiveArray<i32>;
+
+/// An array of `i64`.
+pub type Int64Array = PrimitiveArray<i64>;
+
+/// An array of `i128`.
+pub type Int128Array = PrimitiveArray<i128>;
+
+/// An array of `u8`.
+pub type UInt8Array = PrimitiveArray<u8>;
+
+/// An array of `u16`.
+pub type UInt16Array = PrimitiveArray<u16>;
+
+/// An array of `u32`.
+pub type UInt32Array = PrimitiveArray<u32>;
+
+/// An array of `u64`.
+pub type UInt64Array = PrimitiveArray<u64>;
+
+/// An array of `DaysMs`.
+pub type DaysMsArray = PrimitiveArray<DaysMs>;
+
+/// An array of `MonthDayNano`.
+pub type MonthDayNanoArray = PrimitiveArray<MonthDayNano>;
+
+/// The indices of rows.
+pub type IdxArr = UInt32Array;
