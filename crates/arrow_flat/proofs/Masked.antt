@@ -4,17 +4,9 @@ use Rattle.std.specs.Simd.Lanes.{zip2}
 use Rattle.std.proofs.lemmas.Nat.{mod_below}
 use Rattle.arrow_buffers.specs.Bits.{Bits, lead_of}
 use Rattle.arrow_buffers.proofs.Windows.{window_length}
-use Rattle.arrow_flat.specs.Primitives.{MaskFits, IsLed, HasBit, HasRange, cut_mask, masked, valid_at}
+use Rattle.arrow_flat.specs.Primitives.{MaskFits, IsLed, cut_mask, masked, valid_at}
 
 -- ---- a mask that fits
-pub has_bit : (m : Option Bits) (n i : ℕ) → MaskFits m n → i < n → HasBit m i
-has_bit None n i h l = tt
-has_bit (Some b) n i h l = omega arith
-
-pub has_range : (m : Option Bits) (n o k : ℕ) → MaskFits m n → o + k ≤ n → HasRange m o k
-has_range None n o k h l = tt
-has_range (Some b) n o k h l = omega arith
-
 pub cut_fits : (m : Option Bits) (n o k : ℕ) → MaskFits m n → o + k ≤ n → MaskFits (cut_mask m o k) k
 cut_fits None n o k h l = tt
 cut_fits (Some b) n o k h l = sym (window_length b.bits o k (omega arith))

@@ -1,5 +1,5 @@
 -- What a contract sees of an array of fixed-width values.
-use Rattle.std.specs.Prelude.{◌≡◌, ◌+◌, ◌<◌, ◌≤◌, ℕ, Bool, true, false, cond, List, length, take, drop, map, get_or, Option, Some, None}
+use Rattle.std.specs.Prelude.{◌≡◌, ◌+◌, ◌-◌, ◌<◌, ◌≤◌, ℕ, nat_eq, Bool, true, false, cond, List, length, take, drop, map, get_or, Option, Some, None}
 use Rattle.std.specs.Borrow.{Bor}
 use Rattle.std.specs.Simd.Lanes.{zip2}
 use Rattle.arrow_buffers.specs.Bits.{Bits, cut_bits, count_unset}
@@ -41,10 +41,35 @@ abbrev pub cut_mask : Option Bits → ℕ → ℕ → Option Bits
 cut_mask None offset n = None
 cut_mask (Some b) offset n = Some (cut_bits b offset n)
 
+-- Whether a mask has so many bits, if there is one.
+abbrev pub HasBound : Option Bits → ℕ → Type 0
+HasBound None n = Unit {0}
+HasBound (Some b) n = n ≤ length b.bits
+
+-- How many bits stand in a mask.
+abbrev pub mask_count : Option Bits → ℕ
+mask_count None = 0
+mask_count (Some b) = length b.bits
+
 -- How many slots are null.
 abbrev pub unset_in : Option Bits → ℕ
 unset_in None = 0
 unset_in (Some b) = count_unset b.bits
+
+-- A mask that has an unset bit, and none in place of another.
+abbrev pub needed : Option Bits → Option Bits
+needed m = cond (nat_eq (unset_in m) 0) None m
+
+-- The mask of the half of a column that has n slots from `offset` on.
+abbrev pub half_mask : Option Bits → ℕ → ℕ → Option Bits
+half_mask m offset n = needed (cut_mask m offset n)
+
+-- The two halves of a mask alone.
+abbrev pub front_mask : Option Bits → ℕ → Option Bits
+front_mask m n = half_mask m 0 n
+
+abbrev pub rest_mask : Option Bits → ℕ → Option Bits
+rest_mask m n = half_mask m n (mask_count m - n)
 
 -- What every array keeps: a mask for its slots, and a type that columns have and that is stored in this layout.
 pub record IsArray (layout : PhysicalType) (t : ArrowDataType) (m : Option Bits) (n : ℕ) : Type 0 where
@@ -78,3 +103,13 @@ module _ {T : Type 0} where
   -- The array of n slots from `offset` on.
   abbrev pub cut : Primitives T → ℕ → ℕ → Primitives T
   cut a offset n = record { dtype = a.dtype; values = take n (drop offset a.values); mask = cut_mask a.mask offset n }
+
+  -- The same, of which a mask without an unset bit goes.
+  abbrev pub half : Primitives T → ℕ → ℕ → Primitives T
+  half a offset n = record { dtype = a.dtype; values = take n (drop offset a.values); mask = half_mask a.mask offset n }
+
+  abbrev pub front : Primitives T → ℕ → Primitives T
+  front a n = half a 0 n
+
+  abbrev pub rest : Primitives T → ℕ → Primitives T
+  rest a n = half a n (length a.values - n)

@@ -2,12 +2,14 @@
 ghost use Rattle.std.specs.Prelude.{◌≡◌, ◌+◌, ◌<◌, ◌≤◌, length as count, slice_get, not, Some, MatchResult, IfOk};
 ghost use Rattle.arrow_types.specs.declared.datatype.PhysicalType.TheVariants as physical;
 ghost use Rattle.arrow_flat.specs.Primitives.{MaskFits, valid_at, unset_in, seen_mask};
-ghost use Rattle.arrow_flat.specs.Booleans.{Booleans, IsSound, slots, cut};
+ghost use Rattle.arrow_flat.specs.Booleans.{Booleans, IsSound, slots, cut, half};
 ghost use Rattle.arrow_flat.specs.Refusals.{Refused};
 
-use crate::BooleanIter;
 use crate::stored::is_stored_as_bits;
-use crate::validity::{clone_mask, is_valid, know_led, mask_fits, null_count, slice_mask};
+use crate::validity::{
+    clone_mask, drop_unneeded, is_valid, know_led, mask_fits, null_count, slice_mask,
+};
+use crate::{BooleanIter, Splitable, TryClone};
 use arrow_buffers::{Bitmap, BitmapIter};
 use arrow_types::{ArrowDataType, Mem, PolarsError, PolarsResult, Reason};
 use std::alloc::Global;
@@ -167,6 +169,17 @@ impl BooleanArray {
         let _count = self.values.len();
     }
 
+    /// A copy of the `length` slots from `offset` on, whose mask goes where none of them is null.
+    fn half(&self, alloc: Global, offset: usize, length: usize) -> Mem<BooleanArray>
+        requires { offset + length ≤ count self.now.values.bits }
+        ensures { IfOk result (λ a. a ≡ half self.now offset length) }
+    {
+        let mut half = BooleanArray::try_clone(self, alloc)?;
+        half.slice(offset, length);
+        drop_unneeded(&mut half.validity);
+        Ok(half)
+    }
+
     /// Puts another mask, or none, in the mask's place.
     pub fn set_validity(&mut self, validity: Option<Bitmap>)
         requires { MaskFits validity (count self.old.values.bits) }
@@ -185,5 +198,32 @@ impl BooleanArray {
             values: self.values.try_clone(alloc)?,
             validity: clone_mask(alloc, &self.validity)?,
         })
+    }
+}
+
+impl TryClone for BooleanArray {
+    fn try_clone(&self, alloc: Global) -> Mem<BooleanArray> {
+        BooleanArray::try_clone(self, alloc)
+    }
+}
+
+impl Splitable for BooleanArray {
+    ghost use Rattle.std.specs.Prelude.{◌≤◌, length};
+    ghost use Rattle.arrow_flat.specs.Booleans.{front, rest};
+
+    ghost HasBound = { λ a n. n ≤ length a.values.bits };
+
+    ghost front = { front };
+
+    ghost rest = { rest };
+
+    fn check_bound(&self, offset: usize) -> bool {
+        offset <= self.len()
+    }
+
+    fn split_at(&self, alloc: Global, offset: usize) -> Mem<(BooleanArray, BooleanArray)> {
+        let front = self.half(alloc, 0, offset)?;
+        let rest = self.half(alloc, offset, self.len() - offset)?;
+        Ok((front, rest))
     }
 }

@@ -5,8 +5,10 @@ ghost use Rattle.arrow_flat.specs.Primitives.{MaskFits, IsSound};
 
 use crate::native::{DaysMs, MonthDayNano, NativeType};
 use crate::stored::is_stored_as;
-use crate::validity::{clone_mask, is_valid, know_led, mask_fits, null_count, slice_mask};
-use crate::{PrimitiveIter, PrimitiveValuesIter};
+use crate::validity::{
+    clone_mask, drop_unneeded, is_valid, know_led, mask_fits, null_count, slice_mask,
+};
+use crate::{PrimitiveIter, PrimitiveValuesIter, Splitable, TryClone};
 use arrow_buffers::{Bitmap, Buffer};
 use arrow_types::{ArrowDataType, Mem, PolarsError, PolarsResult, Reason};
 use std::alloc::Global;
@@ -38,7 +40,7 @@ impl<T: NativeType> Model for PrimitiveArray<T> {
 }
 
 impl<T: NativeType> PrimitiveArray<T> {
-    ghost use Rattle.arrow_flat.specs.Primitives.{Primitives, slots, valid_at, unset_in, cut, seen_mask};
+    ghost use Rattle.arrow_flat.specs.Primitives.{Primitives, slots, valid_at, unset_in, cut, half, seen_mask};
     ghost use Rattle.arrow_flat.specs.Refusals.{Refused};
 
     /// The array of these parts. Refused as ComputeError(MaskLength) where a mask is there and hasn't one bit a value, then as
@@ -172,6 +174,17 @@ impl<T: NativeType> PrimitiveArray<T> {
         self.values.slice(offset, length);
     }
 
+    /// A copy of the `length` slots from `offset` on, whose mask goes where none of them is null.
+    fn half(&self, alloc: Global, offset: usize, length: usize) -> Mem<PrimitiveArray<T>>
+        requires { offset + length ≤ count self.now.values }
+        ensures { IfOk result (λ a. a ≡ half self.now offset length) }
+    {
+        let mut half = PrimitiveArray::try_clone(self, alloc)?;
+        half.slice(offset, length);
+        drop_unneeded(&mut half.validity);
+        Ok(half)
+    }
+
     /// Puts another mask, or none, in the mask's place.
     pub fn set_validity(&mut self, validity: Option<Bitmap>)
         requires { MaskFits validity (count self.old.values) }
@@ -190,6 +203,37 @@ impl<T: NativeType> PrimitiveArray<T> {
             values: self.values.try_clone(alloc)?,
             validity: clone_mask(alloc, &self.validity)?,
         })
+    }
+}
+
+impl<T: NativeType> TryClone for PrimitiveArray<T> {
+    fn try_clone(&self, alloc: Global) -> Mem<PrimitiveArray<T>> {
+        PrimitiveArray::try_clone(self, alloc)
+    }
+}
+
+impl<T: NativeType> Splitable for PrimitiveArray<T> {
+    ghost use Rattle.std.specs.Prelude.{◌≤◌, length};
+    ghost use Rattle.arrow_flat.specs.Primitives.{front, rest};
+
+    ghost HasBound = { λ a n. n ≤ length a.values };
+
+    ghost front = { front };
+
+    ghost rest = { rest };
+
+    fn check_bound(&self, offset: usize) -> bool {
+        offset <= self.len()
+    }
+
+    fn split_at(
+        &self,
+        alloc: Global,
+        offset: usize,
+    ) -> Mem<(PrimitiveArray<T>, PrimitiveArray<T>)> {
+        let front = self.half(alloc, 0, offset)?;
+        let rest = self.half(alloc, offset, self.len() - offset)?;
+        Ok((front, rest))
     }
 }
 

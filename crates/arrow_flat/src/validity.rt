@@ -1,13 +1,13 @@
 //! Masks: a set bit for each slot that isn't null; without a mask no slot is null.
 ghost use Rattle.std.specs.Prelude.{◌≡◌, Decides, IfOk};
-ghost use Rattle.arrow_flat.specs.Primitives.{MaskFits, IsLed, HasBit, HasRange, valid_at, unset_in, cut_mask};
+ghost use Rattle.arrow_flat.specs.Primitives.{MaskFits, IsLed, HasBit, HasRange, valid_at, unset_in, cut_mask, needed, half_mask};
 
 use arrow_buffers::Bitmap;
 use arrow_types::Mem;
 use std::alloc::Global;
 
 /// Whether a mask, if there is one, has this length.
-pub(crate) fn mask_fits(validity: &Option<Bitmap>, length: usize) -> bool
+pub fn mask_fits(validity: &Option<Bitmap>, length: usize) -> bool
     ensures fits { Decides result (MaskFits validity.now length) }
     ensures led { IsLed validity.now }
 {
@@ -18,7 +18,7 @@ pub(crate) fn mask_fits(validity: &Option<Bitmap>, length: usize) -> bool
 }
 
 /// Tells a caller that fewer bits stand before those of a mask than a byte has. It does nothing.
-pub(crate) fn know_led(validity: &Option<Bitmap>)
+pub fn know_led(validity: &Option<Bitmap>)
     ensures { IsLed validity.now }
 {
     if let Some(mask) = validity {
@@ -27,7 +27,7 @@ pub(crate) fn know_led(validity: &Option<Bitmap>)
 }
 
 /// Whether slot `i` isn't null.
-pub(crate) fn is_valid(validity: &Option<Bitmap>, i: usize) -> bool
+pub fn is_valid(validity: &Option<Bitmap>, i: usize) -> bool
     requires { HasBit validity.now i }
     ensures { result ≡ valid_at validity.now i }
 {
@@ -38,7 +38,7 @@ pub(crate) fn is_valid(validity: &Option<Bitmap>, i: usize) -> bool
 }
 
 /// The count of nulls.
-pub(crate) fn null_count(validity: &Option<Bitmap>) -> usize
+pub fn null_count(validity: &Option<Bitmap>) -> usize
     ensures { result ≡ unset_in validity.now }
 {
     match validity {
@@ -48,7 +48,7 @@ pub(crate) fn null_count(validity: &Option<Bitmap>) -> usize
 }
 
 /// Keeps the bits of `length` slots from `offset` on.
-pub(crate) fn slice_mask(validity: &mut Option<Bitmap>, offset: usize, length: usize)
+pub fn slice_mask(validity: &mut Option<Bitmap>, offset: usize, length: usize)
     requires { HasRange validity.old offset length }
     ensures { validity.new ≡ cut_mask validity.old offset length }
 {
@@ -58,11 +58,36 @@ pub(crate) fn slice_mask(validity: &mut Option<Bitmap>, offset: usize, length: u
 }
 
 /// Another owner of the same mask.
-pub(crate) fn clone_mask(alloc: Global, validity: &Option<Bitmap>) -> Mem<Option<Bitmap>>
+pub fn clone_mask(alloc: Global, validity: &Option<Bitmap>) -> Mem<Option<Bitmap>>
     ensures { IfOk result (λ m. m ≡ validity.now) }
 {
     match validity {
         None => Ok(None),
         Some(mask) => Ok(Some(mask.try_clone(alloc)?)),
     }
+}
+
+/// Drops a mask without an unset bit.
+pub fn drop_unneeded(validity: &mut Option<Bitmap>)
+    ensures { validity.new ≡ needed validity.old }
+{
+    if null_count(validity) == 0 {
+        *validity = None;
+    }
+}
+
+/// The mask of `length` slots from `offset` on, where one of them is null.
+pub fn half_mask(
+    alloc: Global,
+    validity: &Option<Bitmap>,
+    offset: usize,
+    length: usize,
+) -> Mem<Option<Bitmap>>
+    requires { HasRange validity.now offset length }
+    ensures { IfOk result (λ m. m ≡ half_mask validity.now offset length) }
+{
+    let mut half = clone_mask(alloc, validity)?;
+    slice_mask(&mut half, offset, length);
+    drop_unneeded(&mut half);
+    Ok(half)
 }

@@ -6,7 +6,8 @@ use Rattle.arrow_buffers.specs.Bits.{Bits}
 use Rattle.arrow_flat.specs.Slots.{Slot, bool, bytes, items, no_slots, null, num, packed, parts}
 use Rattle.arrow_flat.specs.Views.{view_bytes}
 use Rattle.arrow_meaning.specs.Cut.{cut, cut_each, cut_mask, part}
-use Rattle.arrow_meaning.specs.Denote.{chunks, columns, denote, masked, pieces, rows}
+use Rattle.arrow_meaning.specs.Denote.{columns, denote, masked, rows}
+use Rattle.arrow_flat.specs.Pieces.{chunks, pieces}
 use Rattle.arrow_meaning.specs.Forms.{form_of, ids_by}
 use Rattle.arrow_meaning.specs.Layouts.{Layout, Layouts, binaries, booleans, child, dense_unions, dictionaries, fixed_size_binaries, fixed_size_lists, length_of, lengths_of, lists, no_layouts, nulls, primitives, sparse_unions, structs, views}
 use Rattle.arrow_meaning.specs.WellFormed.{AreWellFormed, MaskFits, WellFormed}

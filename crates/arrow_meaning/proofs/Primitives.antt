@@ -9,15 +9,14 @@ use Rattle.arrow_types.specs.Seen.{seen}
 use Rattle.arrow_types.specs.TypeData.{TypeData}
 use Rattle.arrow_types.specs.TypeData as T
 use Rattle.arrow_types.specs.Types.{physical_of}
-use Rattle.arrow_types.specs.declared.datatype.PhysicalType.{PhysicalType}
 use Rattle.arrow_types.specs.declared.datatype.PhysicalType.TheVariants as physical
 use Rattle.arrow_types.specs.declared.datatype.PrimitiveType.{PrimitiveType}
 use Rattle.arrow_flat.specs.Numbers.{IsNumber}
 use Rattle.arrow_flat.specs.Primitives.{Primitives, MaskFits as MaskCovers, IsLed, IsSound, masked as option_masked}
-use Rattle.arrow_flat.specs.Slots.{Slot, null, num}
+use Rattle.arrow_flat.specs.Slots.{null, num}
 use Rattle.arrow_meaning.specs.Denote.{masked_by, masked}
 use Rattle.arrow_meaning.specs.Forms.{Form, nulls_of, booleans_of, primitives_of, binaries_of, fixed_size_binaries_of, views_of, lists_of, fixed_size_lists_of, structs_of, unions_of, dictionaries_of, no_form, form_of, primitive_by}
-use Rattle.arrow_meaning.specs.Layouts.{Layout, primitives}
+use Rattle.arrow_meaning.specs.Layouts.{primitives}
 use Rattle.arrow_meaning.specs.Nodes.{primitive_layout, primitive_slot}
 use Rattle.arrow_meaning.specs.WellFormed.{MaskFits, IsColumn, WellFormed}
 use Rattle.arrow_meaning.proofs.Physical.{list_kind, physical_by, physical-by}
@@ -57,7 +56,7 @@ primitive_physical t p e = physical-by t ∙ ap (physical_by t) e
 
 -- ---- that it is well formed
 
-mask_fits : (m : Option Bits) (n : ℕ) → MaskCovers m n → IsLed m → MaskFits m n
+pub mask_fits : (m : Option Bits) (n : ℕ) → MaskCovers m n → IsLed m → MaskFits m n
 mask_fits None n h k = tt
 mask_fits (Some b) n h k = (h, k)
 

@@ -13,7 +13,8 @@ use Rattle.arrow_buffers.specs.Bits.{Bits}
 use Rattle.arrow_flat.specs.Numbers.{InRange}
 use Rattle.arrow_flat.specs.Slots.{Slot, Slots, chosen, is_valid, items, no_slots, null, packed, parts, unpacked}
 use Rattle.arrow_meaning.specs.Canon.{canon, canon_chosen, canon_dense, canon_parts, distinct, first_or, inner_if, inner_or, items_or, parts_or, rest}
-use Rattle.arrow_meaning.specs.Denote.{chunks, columns, denote, dense_slots, dictionary_slots, first_slot, item_slots, masked, rows, sparse_slots, with_column}
+use Rattle.arrow_meaning.specs.Denote.{columns, denote, dense_slots, dictionary_slots, first_slot, item_slots, masked, rows, sparse_slots, with_column}
+use Rattle.arrow_flat.specs.Pieces.{chunks}
 use Rattle.arrow_meaning.specs.Fits.{AllSmall, Small}
 use Rattle.arrow_meaning.specs.Forms.{Form, fields_by, form_of, ids_by, key_by, key_range, value_by}
 use Rattle.arrow_meaning.specs.Layouts.{Layout, Layouts, binaries, booleans, child, dense_unions, dictionaries, fixed_size_binaries, fixed_size_lists, lengths_of, lists, no_layouts, nulls, primitives, sparse_unions, structs, type_of, views}

@@ -12,6 +12,7 @@ pub mod Nodes
 pub mod Nulled
 pub mod Paths
 pub mod Plain
+pub mod Refusals
 pub mod Shown
 pub mod Size
 pub mod SlotsOf

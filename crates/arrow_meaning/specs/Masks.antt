@@ -1,8 +1,10 @@
 -- A layout under another mask.
-use Rattle.std.specs.Prelude.{length, Option, ⊤}
+use Rattle.std.specs.Prelude.{ℕ, Bool, false, length, Option, ⊤}
 use Rattle.arrow_types.specs.Carried.{IsBelow}
 use Rattle.arrow_buffers.specs.Bits.{Bits}
 use Rattle.arrow_meaning.specs.Layouts.{Layout, nulls, booleans, primitives, binaries, fixed_size_binaries, views, lists, fixed_size_lists, structs, sparse_unions, dense_unions, dictionaries, length_of}
+use Rattle.arrow_flat.specs.Primitives.{unset_in, valid_at}
+use Rattle.arrow_meaning.specs.Denote.{validity_of}
 use Rattle.arrow_meaning.specs.WellFormed.{mask_bits, AllSet}
 
 -- A null array and a union have no mask, and stay as they are.
@@ -30,3 +32,13 @@ with_mask m (dictionaries t u old ks l) = dictionaries t u m ks l
 abbrev pub KeysInRange : Option Bits → Layout → Type 0
 KeysInRange m (dictionaries t u old ks l) = AllSet (IsBelow (length_of l)) (mask_bits m (length ks)) ks
 KeysInRange m _ = ⊤
+
+-- How many nulls the mask tells; all slots of a null array are null.
+abbrev pub null_count_of : Layout → ℕ
+null_count_of (nulls t n) = n
+null_count_of l = unset_in (validity_of l)
+
+-- Whether slot i isn't null by the mask.
+abbrev pub valid_in : Layout → ℕ → Bool
+valid_in (nulls t n) i = false
+valid_in l i = valid_at (validity_of l) i

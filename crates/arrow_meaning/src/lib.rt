@@ -2,10 +2,17 @@
 #![tactic(auto)]
 
 mod array;
+mod flat;
 pub mod laws;
+mod node;
+mod offset;
 mod primitive;
 #[cfg(test)]
 mod tests;
+mod view;
 
-pub use array::{ArrayRef, Node};
+pub use array::ArrayRef;
+pub use node::Node;
+pub use offset::{NodeOffset, SizedOffset};
 pub use primitive::{NodeNative, PrimitiveNode};
+pub use view::NodeView;

@@ -1,10 +1,5 @@
-pub mod BadParts
-pub mod CanonSteps
-pub mod ColumnText
-pub mod DataKinds
+pub mod Columns
 pub mod Depths
 pub mod Equal
 pub mod Jobs
 pub mod Readings
-pub mod Stored
-pub mod Text

@@ -5,10 +5,10 @@ use Rattle.serde_json.specs.Data.{Data}
 use Rattle.serde_json.specs.Read.{read}
 use Rattle.arrow_types.specs.Depth.{depth_of}
 use Rattle.arrow_meaning.specs.Layouts.{Layout, type_of}
-use Rattle.arrow_meaning.specs.Denote.{denote}
-use Rattle.arrow_meaning.specs.WellFormed.{WellFormed}
-use Rattle.arrow_meaning.specs.Canon.{canon}
-use Rattle.columns.specs.Json.{column_of, column_text}
+use Rattle.arrow_meaning.specs.Fits.{Fits}
+use Rattle.arrow_canon.specs.Canonical.{canonical_of}
+use Rattle.column_json.specs.Reads.{Column, column_of, taken, IsSound}
+use Rattle.column_json.specs.Writes.{column_text}
 
 -- the most bytes that a job may have
 abbrev pub limit : ℕ
@@ -27,13 +27,19 @@ pub record IsRead (bytes : List ℕ) (value : Data) : Type 0 where
   pub short : length bytes ≤ limit
   pub is_read : reading bytes ≡ Some value
 
--- the bytes are one whole job of this column
-pub record IsJob (bytes : List ℕ) (c : Layout) : Type 0 where
+-- the bytes are this column of the grammar, of a type that isn't too deep
+pub record IsColumn (bytes : List ℕ) (c : Column) : Type 0 where
   pub value : Data
   pub read_as : IsRead bytes value
   pub is_column : column_of value ≡ Some c
-  pub shallow : depth_of (type_of c) ≤ deepest
-  pub sound : WellFormed c
+  pub shallow : depth_of (type_of c.layout) ≤ deepest
+
+-- the bytes are one whole job, which takes the slots of this layout
+pub record IsJob (bytes : List ℕ) (l : Layout) : Type 0 where
+  pub column : Column
+  pub read_as : IsColumn bytes column
+  pub sound : IsSound column
+  pub takes : l ≡ taken column.layout column.slice
 
 -- What bytes are: a job, or no job for one of these causes.
 pub data Verdict : Type 0 where
@@ -42,6 +48,8 @@ pub data Verdict : Type 0 where
   bad_job : Verdict
   too_deep : Verdict
   bad_layout : Verdict
+  -- a job whose canonical layout has a count or an offset out of its range
+  overflows : Verdict
   a_job : Verdict
 
 abbrev pub IsOf : Verdict → List ℕ → Type 0
@@ -51,11 +59,12 @@ IsOf bad_text bytes = (length bytes ≤ limit) × (reading bytes ≡ None)
 -- a value, but no column of the grammar
 IsOf bad_job bytes = (v : Data) × IsRead bytes v × (column_of v ≡ None)
 -- a column of the grammar whose type is deeper
-IsOf too_deep bytes = (v : Data) × (c : Layout) × IsRead bytes v × (column_of v ≡ Some c) × (deepest < depth_of (type_of c))
--- a column of the grammar, of a type that isn't deeper, that isn't well formed
-IsOf bad_layout bytes = (v : Data) × (c : Layout) × IsRead bytes v × (column_of v ≡ Some c) × (depth_of (type_of c) ≤ deepest) × (WellFormed c → ⊥)
-IsOf a_job bytes = (c : Layout) × IsJob bytes c
+IsOf too_deep bytes = (v : Data) × (c : Column) × IsRead bytes v × (column_of v ≡ Some c) × (deepest < depth_of (type_of c.layout))
+-- a column of the grammar, of a type that isn't deeper, that isn't well formed or whose slice passes its length
+IsOf bad_layout bytes = (c : Column) × IsColumn bytes c × (IsSound c → ⊥)
+IsOf overflows bytes = (l : Layout) × IsJob bytes l × (Fits (canonical_of l) → ⊥)
+IsOf a_job bytes = (l : Layout) × IsJob bytes l × Fits (canonical_of l)
 
--- the text of the canonical layout of a column's slots
+-- the text of the canonical layout of a layout's slots
 abbrev pub canon_text : Layout → List ℕ
-canon_text c = column_text (canon (type_of c) (denote c))
+canon_text l = column_text (canonical_of l)

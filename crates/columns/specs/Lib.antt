@@ -1,10 +1,7 @@
 pub mod Causes
 pub mod Job
-pub mod Json
 pub mod Laws
 pub mod Memory
 pub mod Outcomes
-pub mod Parts
 pub mod Plain
 pub mod Refusals
-pub mod Steps

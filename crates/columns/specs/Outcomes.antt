@@ -1,8 +1,8 @@
 -- The text, the status and the verdict of each outcome.
 use Rattle.std.specs.Prelude.{ℕ, List, codes, Option, Some, None}
 use Rattle.columns.specs.declared.outcome.Outcome.{Outcome}
-use Rattle.columns.specs.declared.outcome.Outcome.TheVariants.{Done, Usage, BadText, BadJob, BadLayout, TooLong, TooDeep, ReadFault, WriteFault, OutOfMemory}
-use Rattle.columns.specs.Job.{Verdict, too_long, bad_text, bad_job, too_deep, bad_layout, a_job}
+use Rattle.columns.specs.declared.outcome.Outcome.TheVariants.{Done, Usage, BadText, BadJob, BadLayout, TooLong, TooDeep, Overflow, ReadFault, WriteFault, OutOfMemory}
+use Rattle.columns.specs.Job.{Verdict, too_long, bad_text, bad_job, too_deep, bad_layout, overflows, a_job}
 
 abbrev pub text_of : Outcome → List ℕ
 text_of Done = codes "done"
@@ -12,6 +12,7 @@ text_of BadJob = codes "bad job"
 text_of (BadLayout i) = codes "bad layout"
 text_of TooLong = codes "too long"
 text_of TooDeep = codes "too deep"
+text_of Overflow = codes "overflow"
 text_of ReadFault = codes "read fault"
 text_of WriteFault = codes "write fault"
 text_of OutOfMemory = codes "out of memory"
@@ -24,6 +25,7 @@ status_of BadJob = 4
 status_of (BadLayout i) = 5
 status_of TooLong = 6
 status_of TooDeep = 7
+status_of Overflow = 15
 status_of ReadFault = 20
 status_of WriteFault = 21
 status_of OutOfMemory = 30
@@ -37,6 +39,7 @@ verdict_of TooDeep = Some too_deep
 verdict_of BadText = Some bad_text
 verdict_of BadJob = Some bad_job
 verdict_of (BadLayout i) = Some bad_layout
+verdict_of Overflow = Some overflows
 verdict_of Usage = None
 verdict_of ReadFault = None
 verdict_of OutOfMemory = None

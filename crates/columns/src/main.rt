@@ -1,19 +1,16 @@
 //! Reads a column as JSON, and writes the canonical layout of its slots.
 #![tactic(auto)]
 
-mod canonical;
 mod depth;
 mod job;
-mod laws;
+pub mod laws;
 mod memory;
 mod outcome;
 mod outside;
 mod plain;
-mod reader;
 mod standard;
 #[cfg(test)]
 mod tests;
-mod writer;
 
 use std::process::ExitCode;
 use std::{env, io};

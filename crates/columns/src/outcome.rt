@@ -18,6 +18,8 @@ pub enum Outcome {
     TooLong,
     /// The type of a column is deeper than 32 levels.
     TooDeep,
+    /// A count or an offset of the answer passes its range.
+    Overflow,
     /// The source failed.
     ReadFault,
     /// The sink failed; it holds a front of the output.
@@ -40,6 +42,7 @@ pub fn outcome_text(outcome: &Outcome) -> &str
         Outcome::BadLayout(_) => "bad layout",
         Outcome::TooLong => "too long",
         Outcome::TooDeep => "too deep",
+        Outcome::Overflow => "overflow",
         Outcome::ReadFault => "read fault",
         Outcome::WriteFault => "write fault",
         Outcome::OutOfMemory => "out of memory",
@@ -58,6 +61,7 @@ pub fn status(outcome: &Outcome) -> u8
         Outcome::BadLayout(_) => 5,
         Outcome::TooLong => 6,
         Outcome::TooDeep => 7,
+        Outcome::Overflow => 15,
         Outcome::ReadFault => 20,
         Outcome::WriteFault => 21,
         Outcome::OutOfMemory => 30,

@@ -72,11 +72,6 @@ fn each_input_has_its_outcome(rt: HostRuntime) -> Result<(), Fail> {
             "",
         ),
         (
-            "{\"data\":{\"mask\":null,\"values\":[1]},\"type\":\"int64\"}",
-            Outcome::BadJob,
-            "",
-        ),
-        (
             "{\"data\":{\"mask\":null,\"values\":[1]},\"type\":[\"list\",[\"item\",\"int32\",true,null]]}",
             Outcome::BadJob,
             "",
@@ -107,8 +102,18 @@ fn each_input_has_its_outcome(rt: HostRuntime) -> Result<(), Fail> {
             "",
         ),
         (
-            "{\"data\":{\"mask\":null,\"values\":[1]},\"slice\":[0,1],\"type\":\"int32\"}",
-            Outcome::BadJob,
+            "{\"data\":{\"mask\":null,\"values\":[1,2]},\"slice\":[1,1],\"type\":\"int32\"}",
+            Outcome::Done,
+            "{\"data\":{\"mask\":null,\"values\":[2]},\"type\":\"int32\"}\n",
+        ),
+        (
+            "{\"data\":{\"mask\":null,\"values\":[1,2]},\"slice\":[1,2],\"type\":\"int32\"}",
+            Outcome::BadLayout(0),
+            "",
+        ),
+        (
+            "{\"data\":{\"mask\":\"1\",\"values\":[1,2]},\"slice\":[1,0],\"type\":\"int32\"}",
+            Outcome::BadLayout(0),
             "",
         ),
         (
@@ -118,6 +123,163 @@ fn each_input_has_its_outcome(rt: HostRuntime) -> Result<(), Fail> {
         ),
         ("{\"data\":", Outcome::BadText, ""),
         ("", Outcome::BadText, ""),
+    ] {
+        let found = run_of(
+            alloc,
+            words.as_slice(),
+            input.as_bytes(),
+            &[],
+            &[],
+            &mut held,
+        )?;
+        assert_eq!(rt; found, outcome, "{input}");
+        assert_eq!(rt; held.as_str(), output, "{input}");
+    }
+    Ok(())
+}
+
+// One job of each layout without children, and one for each of its tests.
+#[test]
+fn each_flat_layout_has_its_outcome(rt: HostRuntime) -> Result<(), Fail> {
+    let alloc = rt.alloc();
+    let words = words_of(alloc, &["canon"])?;
+    let mut held = String::new(alloc);
+    for (input, outcome, output) in [
+        (
+            "{\"data\":{\"mask\":null,\"values\":\"110100111\"},\"slice\":[3,5],\"type\":\"boolean\"}",
+            Outcome::Done,
+            "{\"data\":{\"mask\":null,\"values\":\"10011\"},\"type\":\"boolean\"}\n",
+        ),
+        (
+            "{\"data\":{\"mask\":\"10\",\"values\":\"11\"},\"type\":\"boolean\"}",
+            Outcome::Done,
+            "{\"data\":{\"mask\":\"10\",\"values\":\"10\"},\"type\":\"boolean\"}\n",
+        ),
+        (
+            "{\"data\":{\"mask\":\"1\",\"values\":\"11\"},\"type\":\"boolean\"}",
+            Outcome::BadLayout(0),
+            "",
+        ),
+        (
+            "{\"data\":{\"mask\":null,\"values\":[\"ffffffffffffffffffffffffffffffff\"]},\"type\":\"int128\"}",
+            Outcome::Done,
+            "{\"data\":{\"mask\":null,\"values\":[\"ffffffffffffffffffffffffffffffff\"]},\"type\":\"int128\"}\n",
+        ),
+        (
+            "{\"data\":{\"mask\":null,\"values\":[\"FFFFFFFFFFFFFFFFFFFFFFFFFFFFFFFF\"]},\"type\":[\"decimal\",9,2]}",
+            Outcome::Done,
+            "{\"data\":{\"mask\":null,\"values\":[\"ffffffffffffffffffffffffffffffff\"]},\"type\":[\"decimal\",9,2]}\n",
+        ),
+        (
+            "{\"data\":{\"mask\":null,\"values\":[\"ff\"]},\"type\":\"int128\"}",
+            Outcome::BadJob,
+            "",
+        ),
+        (
+            "{\"data\":{\"mask\":\"01\",\"values\":[1,18446744073709551615]},\"type\":\"uint64\"}",
+            Outcome::Done,
+            "{\"data\":{\"mask\":\"01\",\"values\":[0,18446744073709551615]},\"type\":\"uint64\"}\n",
+        ),
+        (
+            "{\"data\":{\"mask\":null,\"values\":[256]},\"type\":\"uint8\"}",
+            Outcome::BadJob,
+            "",
+        ),
+        (
+            "{\"data\":{\"mask\":\"10\",\"values\":[[1,-2],[3,4]]},\"type\":[\"interval\",\"day_time\"]}",
+            Outcome::Done,
+            "{\"data\":{\"mask\":\"10\",\"values\":[[1,-2],[0,0]]},\"type\":[\"interval\",\"day_time\"]}\n",
+        ),
+        (
+            "{\"data\":{\"mask\":\"0\",\"values\":[[1,2,3]]},\"type\":[\"interval\",\"month_day_nano\"]}",
+            Outcome::Done,
+            "{\"data\":{\"mask\":\"0\",\"values\":[[0,0,0]]},\"type\":[\"interval\",\"month_day_nano\"]}\n",
+        ),
+        (
+            "{\"data\":{\"mask\":null,\"values\":[[1,2,3]]},\"type\":[\"interval\",\"day_time\"]}",
+            Outcome::BadJob,
+            "",
+        ),
+        (
+            "{\"data\":{\"bytes\":\"00616263\",\"mask\":\"101\",\"offsets\":[1,2,3,4]},\"type\":\"binary\"}",
+            Outcome::Done,
+            "{\"data\":{\"bytes\":\"6163\",\"mask\":\"101\",\"offsets\":[0,1,1,2]},\"type\":\"binary\"}\n",
+        ),
+        (
+            "{\"data\":{\"bytes\":\"61\",\"mask\":null,\"offsets\":[0,2]},\"type\":\"binary\"}",
+            Outcome::BadLayout(0),
+            "",
+        ),
+        (
+            "{\"data\":{\"bytes\":\"6161\",\"mask\":null,\"offsets\":[1,0]},\"type\":\"large_binary\"}",
+            Outcome::BadLayout(0),
+            "",
+        ),
+        (
+            "{\"data\":{\"bytes\":\"61\",\"mask\":\"11\",\"offsets\":[0,1]},\"type\":\"large_binary\"}",
+            Outcome::BadLayout(0),
+            "",
+        ),
+        (
+            "{\"data\":{\"bytes\":\"c3a4\",\"mask\":null,\"offsets\":[0,0,2]},\"type\":\"large_utf8\"}",
+            Outcome::Done,
+            "{\"data\":{\"bytes\":\"c3a4\",\"mask\":null,\"offsets\":[0,0,2]},\"type\":\"large_utf8\"}\n",
+        ),
+        (
+            "{\"data\":{\"bytes\":\"ff\",\"mask\":null,\"offsets\":[0,1]},\"type\":\"utf8\"}",
+            Outcome::BadLayout(0),
+            "",
+        ),
+        (
+            "{\"data\":{\"bytes\":\"c3a4\",\"mask\":\"00\",\"offsets\":[0,1,2]},\"type\":\"utf8\"}",
+            Outcome::BadLayout(0),
+            "",
+        ),
+        (
+            "{\"data\":{\"bytes\":\"01020304\",\"mask\":\"01\"},\"type\":[\"fixed_size_binary\",2]}",
+            Outcome::Done,
+            "{\"data\":{\"bytes\":\"00000304\",\"mask\":\"01\"},\"type\":[\"fixed_size_binary\",2]}\n",
+        ),
+        (
+            "{\"data\":{\"bytes\":\"010203\",\"mask\":null},\"type\":[\"fixed_size_binary\",2]}",
+            Outcome::BadLayout(0),
+            "",
+        ),
+        (
+            "{\"data\":{\"bytes\":\"\",\"mask\":null},\"type\":[\"fixed_size_binary\",0]}",
+            Outcome::BadLayout(0),
+            "",
+        ),
+        (
+            "{\"data\":{\"buffers\":[\"0000615f766572795f766572795f6c6f6e675f737472696e675f746861745f69735f6e6f745f696e6c696e61626c65\"],\"mask\":null,\"views\":[[45,0,2],\"616263\"]},\"type\":\"utf8_view\"}",
+            Outcome::Done,
+            "{\"data\":{\"buffers\":[\"615f766572795f766572795f6c6f6e675f737472696e675f746861745f69735f6e6f745f696e6c696e61626c65\"],\"mask\":null,\"views\":[[45,0,0],\"616263\"]},\"type\":\"utf8_view\"}\n",
+        ),
+        (
+            "{\"data\":{\"buffers\":[\"00112233445566778899aabbcc\"],\"mask\":\"01\",\"views\":[[13,0,0],\"FF\"]},\"type\":\"binary_view\"}",
+            Outcome::Done,
+            "{\"data\":{\"buffers\":[],\"mask\":\"01\",\"views\":[\"\",\"ff\"]},\"type\":\"binary_view\"}\n",
+        ),
+        (
+            "{\"data\":{\"buffers\":[\"00112233445566778899aabbcc\"],\"mask\":null,\"views\":[[13,0,1]]},\"type\":\"binary_view\"}",
+            Outcome::BadLayout(0),
+            "",
+        ),
+        (
+            "{\"data\":{\"buffers\":[],\"mask\":null,\"views\":[[13,0,0]]},\"type\":\"binary_view\"}",
+            Outcome::BadLayout(0),
+            "",
+        ),
+        (
+            "{\"data\":{\"buffers\":[],\"mask\":null,\"views\":[\"ff\"]},\"type\":\"utf8_view\"}",
+            Outcome::BadLayout(0),
+            "",
+        ),
+        (
+            "{\"data\":{\"buffers\":[],\"mask\":null,\"views\":[\"00112233445566778899aabbcc\"]},\"type\":\"binary_view\"}",
+            Outcome::BadJob,
+            "",
+        ),
     ] {
         let found = run_of(
             alloc,
@@ -186,7 +348,7 @@ fn the_depth_of_a_type_has_a_limit(rt: HostRuntime) -> Result<(), Fail> {
     for (inner, depth, outcome) in [
         ("\"int32\"", 31, Outcome::Done),
         ("\"int32\"", 32, Outcome::TooDeep),
-        ("\"utf8\"", 32, Outcome::BadJob),
+        ("\"null\"", 32, Outcome::BadJob),
     ] {
         let mut source = PlainSource::new(nested(alloc, inner, depth)?);
         let mut sink = PlainSink::new(vec![in alloc; 0; 1024]?);

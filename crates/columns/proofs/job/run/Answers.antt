@@ -2,7 +2,7 @@ use Rattle.std.proofs.Common.{subst}
 use Rattle.std.specs.Prelude.{IfSome}
 use Rattle.std.specs.Io.KnownBytes.{Appends}
 use Rattle.columns.specs.Causes.{AppendsFront}
-use Rattle.columns.specs.Job.{bad_layout, a_job, IsOf}
+use Rattle.columns.specs.Job.{bad_layout, overflows, a_job, IsOf}
 use Rattle.columns.specs.Refusals.{refusal_of}
 use Rattle.columns.proofs.Jobs.{verdict_of_taken, written_of_taken}
 use Rattle.columns.proofs.job.run.Goals as goal
@@ -17,7 +17,7 @@ pub returns-in-Ok-write_all-clause-verdict : goal.returns-in-Ok-write_all-clause
 returns-in-Ok-write_all-clause-verdict g c =
     let read = c.in-Ok.ensures.whole in
     let job = c.in-Ok-answer.ensures.ok in
-    verdict_of_taken a_job _ _ c.in-Ok.bytes.items c.deref.result.now read.0 read.1 c.deref.ensures.value (job.0, job.1)
+    verdict_of_taken a_job _ _ c.in-Ok.bytes.items c.deref.result.now read.0 read.1 c.deref.ensures.value (job.0, job.1.0, job.1.1)
 
 pub returns-clause-part : goal.returns-clause-part
 returns-clause-part g c = λ _.
@@ -29,10 +29,16 @@ pub returns-clause-verdict : goal.returns-clause-verdict
 returns-clause-verdict g c =
     let read = c.in-Ok.ensures.whole in
     let job = c.in-Ok-answer.ensures.ok in
-    verdict_of_taken a_job _ _ c.in-Ok.bytes.items c.deref.result.now read.0 read.1 c.deref.ensures.value (job.0, job.1)
+    verdict_of_taken a_job _ _ c.in-Ok.bytes.items c.deref.result.now read.0 read.1 c.deref.ensures.value (job.0, job.1.0, job.1.1)
 
 pub returns-in-Err-BadLayout-clause-verdict : goal.returns-in-Err-BadLayout-clause-verdict
 returns-in-Err-BadLayout-clause-verdict g c =
     let read = c.in-Ok.ensures.whole in
     verdict_of_taken bad_layout _ _ c.in-Ok.bytes.items c.deref.result.now read.0 read.1 c.deref.ensures.value
     (subst (λ e. IfSome (refusal_of e) (λ v. IsOf v c.deref.result.now)) c.in-Err-BadLayout.field-0-is c.in-Err-BadLayout.ensures.bad)
+
+pub returns-in-Err-Overflow-clause-verdict : goal.returns-in-Err-Overflow-clause-verdict
+returns-in-Err-Overflow-clause-verdict g c =
+    let read = c.in-Ok.ensures.whole in
+    verdict_of_taken overflows _ _ c.in-Ok.bytes.items c.deref.result.now read.0 read.1 c.deref.ensures.value
+    (subst (λ e. IfSome (refusal_of e) (λ v. IsOf v c.deref.result.now)) c.in-Err-Overflow.field-0-is c.in-Err-Overflow.ensures.bad)

@@ -1,0 +1,3 @@
+pub mod Binaries
+pub mod FixedSizeBinaries
+pub mod Texts

@@ -1,0 +1,286 @@
+//! Arrays of byte strings of one size under a mask.
+ghost use Rattle.std.specs.Prelude.{◌≡◌, ◌+◌, ◌*◌, ◌<◌, ◌≤◌, length as count, take, drop, slice_get, not, Some, MatchResult, IfOk};
+ghost use Rattle.arrow_types.specs.Carried.{IsCarried};
+ghost use Rattle.arrow_types.specs.Seen.{seen};
+ghost use Rattle.arrow_flat.specs.Primitives.{MaskFits, valid_at, unset_in, seen_mask};
+ghost use Rattle.arrow_flat.specs.Pieces.{seen_bytes};
+ghost use Rattle.arrow_bytes.specs.FixedSizeBinaries.{FixedSizeBinaries, IsSound, Refused, size_of, count_of, values_of, slots, cut, half};
+
+use crate::stored::{know_sized, size_of_values};
+use arrow_buffers::{Bitmap, Buffer};
+use arrow_flat::validity::{
+    clone_mask, drop_unneeded, is_valid, know_led, mask_fits, null_count, slice_mask,
+};
+use arrow_flat::{BytesIter, BytesValuesIter, LentBytes, Splitable, TryClone};
+use arrow_types::{ArrowDataType, Mem, PolarsError, PolarsResult, Reason};
+use std::alloc::Global;
+use std::marker::Model;
+
+/// An array of byte strings of one size, seen as its type, the size, its bytes and its mask.
+///
+/// The Arrow Columnar Format's fixed-size primitive layout, of byte strings.
+#[derive(Drop)]
+pub struct FixedSizeBinaryArray {
+    dtype: ArrowDataType,
+    size: usize,
+    values: Buffer<u8>,
+    validity: Option<Bitmap>,
+}
+
+impl Model for FixedSizeBinaryArray {
+    ghost use Rattle.std.specs.Prelude.{length};
+    ghost use Rattle.std.specs.Coded.{codes};
+    ghost use Rattle.arrow_types.specs.contracts.datatype.ArrowDataType as data_type;
+    ghost use Rattle.arrow_bytes.specs.FixedSizeBinaries.{FixedSizeBinaries, IsSound};
+
+    ghost Value = { FixedSizeBinaries };
+
+    ghost coded = { Prim.hlevel (codes, data_type.the_row.coded) };
+
+    ghost view = { λ a. record { dtype = a.dtype; size = a.size; values = a.values; mask = a.validity } };
+
+    ghost invariant = { λ a. IsSound a.dtype a.size a.validity (length a.values) };
+}
+
+impl FixedSizeBinaryArray {
+    /// The array of these parts, whose type tells the size. Refused as ComputeError: WrongLogicalType where the type is another,
+    /// then NotCarried where the size is 0, then NotMultiple where the size doesn't divide the count of bytes, then MaskLength
+    /// where a mask is there and hasn't one bit a value.
+    ///
+    /// Takes no memory.
+    pub fn try_new(
+        dtype: ArrowDataType,
+        values: Buffer<u8>,
+        validity: Option<Bitmap>,
+    ) -> PolarsResult<FixedSizeBinaryArray>
+        ensures { MatchResult result
+            (λ a. (a ≡ record { dtype = dtype; size = a.size; values = values; mask = validity }) × IsSound dtype a.size validity (count values))
+            (λ e. Refused e dtype validity (count values)) }
+    {
+        let Some(size) = size_of_values(&dtype) else {
+            return Err(PolarsError::ComputeError(Reason::WrongLogicalType));
+        };
+        if size == 0 {
+            return Err(PolarsError::ComputeError(Reason::NotCarried));
+        }
+        if values.len() % size != 0 {
+            return Err(PolarsError::ComputeError(Reason::NotMultiple));
+        }
+        if !mask_fits(&validity, values.len() / size) {
+            return Err(PolarsError::ComputeError(Reason::MaskLength));
+        }
+        know_sized(&dtype, size);
+        Ok(FixedSizeBinaryArray {
+            dtype,
+            size,
+            values,
+            validity,
+        })
+    }
+
+    /// The whole type, extensions included.
+    pub fn dtype(&self) -> &ArrowDataType
+        ensures value { result.now ≡ self.now.dtype }
+        ensures sound { IsSound self.now.dtype self.now.size self.now.mask (count self.now.values) }
+    {
+        &self.dtype
+    }
+
+    /// The count of bytes of a value.
+    pub fn size(&self) -> usize
+        ensures value { result ≡ self.now.size }
+        ensures positive { 0 < result }
+    {
+        self.size
+    }
+
+    /// The count of slots.
+    pub fn len(&self) -> usize
+        ensures { result ≡ count_of self.now }
+    {
+        self.values.len() / self.size
+    }
+
+    /// The bytes of all slots, those under nulls too.
+    pub fn values(&self) -> &Buffer<u8>
+        ensures { result.now ≡ self.now.values }
+    {
+        &self.values
+    }
+
+    /// The mask, where there is one: a set bit for each slot that isn't null.
+    pub fn validity(&self) -> Option<&Bitmap>
+        ensures { seen_mask result ≡ self.now.mask }
+    {
+        self.validity.as_ref()
+    }
+
+    /// The value at a slot, under a null too.
+    pub fn value(&self, i: usize) -> &[u8]
+        requires { i < count_of self.now }
+        ensures { slice_get (values_of self.now) i ≡ Some result.now }
+    {
+        chunk(self.values.as_slice(), self.size, i)
+    }
+
+    /// Whether the slot isn't null.
+    pub fn is_valid(&self, i: usize) -> bool
+        requires { i < count_of self.now }
+        ensures { result ≡ valid_at self.now.mask i }
+    {
+        is_valid(&self.validity, i)
+    }
+
+    /// Whether the slot is null.
+    pub fn is_null(&self, i: usize) -> bool
+        requires { i < count_of self.now }
+        ensures { result ≡ not (valid_at self.now.mask i) }
+    {
+        !self.is_valid(i)
+    }
+
+    /// The count of nulls.
+    pub fn null_count(&self) -> usize
+        ensures { result ≡ unset_in self.now.mask }
+    {
+        null_count(&self.validity)
+    }
+
+    /// The value at a slot, None where it is null.
+    pub fn get(&self, i: usize) -> Option<&[u8]>
+        requires { i < count_of self.now }
+        ensures { slice_get (slots self.now) i ≡ Some (seen_bytes result) }
+    {
+        let _ = &self.validity;
+        if self.is_valid(i) {
+            Some(self.value(i))
+        } else {
+            None
+        }
+    }
+
+    /// Each slot in order, None for a null, from both ends.
+    pub fn iter(&self) -> BytesIter<'_, FixedSizeBinaryArray>
+        ensures { result ≡ slots self.now }
+    {
+        BytesIter::new(self)
+    }
+
+    /// Each value in order, those under nulls too, from both ends.
+    pub fn values_iter(&self) -> BytesValuesIter<'_, FixedSizeBinaryArray>
+        ensures { result ≡ values_of self.now }
+    {
+        BytesValuesIter::new(self)
+    }
+
+    /// Keeps the `length` slots from `offset` on.
+    pub fn slice(&mut self, offset: usize, length: usize)
+        requires { offset + length ≤ count_of self.old }
+        ensures { self.new ≡ cut self.old offset length }
+    {
+        slice_mask(&mut self.validity, offset, length);
+        slice_chunks(&mut self.values, self.size, offset, length);
+    }
+
+    /// A copy of the `length` slots from `offset` on, whose mask goes where none of them is null.
+    fn half(&self, alloc: Global, offset: usize, length: usize) -> Mem<FixedSizeBinaryArray>
+        requires { offset + length ≤ count_of self.now }
+        ensures { IfOk result (λ a. a ≡ half self.now offset length) }
+    {
+        let mut half = FixedSizeBinaryArray::try_clone(self, alloc)?;
+        half.slice(offset, length);
+        drop_unneeded(&mut half.validity);
+        Ok(half)
+    }
+
+    /// Puts another mask, or none, in the mask's place.
+    pub fn set_validity(&mut self, validity: Option<Bitmap>)
+        requires { MaskFits validity (count_of self.old) }
+        ensures { self.new ≡ record { dtype = self.old.dtype; size = self.old.size; values = self.old.values; mask = validity } }
+    {
+        know_led(&validity);
+        self.validity = validity;
+    }
+
+    /// Another owner of the same values and mask.
+    pub fn try_clone(&self, alloc: Global) -> Mem<FixedSizeBinaryArray>
+        ensures { IfOk result (λ a. a ≡ self.now) }
+    {
+        Ok(FixedSizeBinaryArray {
+            dtype: self.dtype.try_clone(alloc)?,
+            size: self.size,
+            values: self.values.try_clone(alloc)?,
+            validity: clone_mask(alloc, &self.validity)?,
+        })
+    }
+}
+
+impl LentBytes for FixedSizeBinaryArray {
+    ghost use Rattle.arrow_bytes.specs.FixedSizeBinaries.{values_of};
+
+    ghost values = { values_of };
+
+    ghost mask = { λ a. a.mask };
+
+    fn count_slots(&self) -> usize {
+        let _ = &self.validity;
+        self.len()
+    }
+
+    fn value_bytes(&self, i: usize) -> &[u8] {
+        self.value(i)
+    }
+
+    fn get_bytes(&self, i: usize) -> Option<&[u8]> {
+        self.get(i)
+    }
+}
+
+impl TryClone for FixedSizeBinaryArray {
+    fn try_clone(&self, alloc: Global) -> Mem<FixedSizeBinaryArray> {
+        FixedSizeBinaryArray::try_clone(self, alloc)
+    }
+}
+
+impl Splitable for FixedSizeBinaryArray {
+    ghost use Rattle.std.specs.Prelude.{◌≤◌};
+    ghost use Rattle.arrow_bytes.specs.FixedSizeBinaries.{count_of, front, rest};
+
+    ghost HasBound = { λ a n. n ≤ count_of a };
+
+    ghost front = { front };
+
+    ghost rest = { rest };
+
+    fn check_bound(&self, offset: usize) -> bool {
+        offset <= self.len()
+    }
+
+    fn split_at(
+        &self,
+        alloc: Global,
+        offset: usize,
+    ) -> Mem<(FixedSizeBinaryArray, FixedSizeBinaryArray)> {
+        let front = self.half(alloc, 0, offset)?;
+        let rest = self.half(alloc, offset, self.len() - offset)?;
+        Ok((front, rest))
+    }
+}
+
+/// The `i`th piece of `size` bytes.
+fn chunk(bytes: &[u8], size: usize, i: usize) -> &[u8]
+    requires { i * size + size ≤ count bytes.now }
+    ensures { result.now ≡ take size (drop (i * size) bytes.now) }
+{
+    let start = i * size;
+    &bytes[start..start + size]
+}
+
+/// Keeps `length` pieces of `size` bytes from piece `offset` on.
+fn slice_chunks(bytes: &mut Buffer<u8>, size: usize, offset: usize, length: usize)
+    requires { offset * size + length * size ≤ count bytes.old }
+    ensures { bytes.new ≡ take (length * size) (drop (offset * size) bytes.old) }
+{
+    let _count = bytes.len();
+    bytes.slice(offset * size, length * size);
+}

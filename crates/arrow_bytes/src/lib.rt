@@ -1,0 +1,16 @@
+//! Flat arrays of byte strings and texts.
+#![tactic(auto)]
+
+mod binary;
+mod fixed_size_binary;
+mod generic;
+mod piece;
+mod stored;
+#[cfg(test)]
+mod tests;
+mod utf8;
+
+pub use binary::BinaryArray;
+pub use fixed_size_binary::FixedSizeBinaryArray;
+pub use generic::GenericBinaryArray;
+pub use utf8::Utf8Array;

@@ -1,0 +1,159 @@
+-- The canonical array of byte strings of one size.
+use Rattle.std.proofs.Common.{◌≡◌, ℕ, zero, suc, ◌+◌, ◌*◌, ◌/◌, ◌%◌, ◌<◌, ◌≤◌, Bool, true, false, cond, List, [], ◌∷◌, length, map, drop, flat_map, replicate, refl, ap, ap₂, sym, subst, ◌∙◌, arith, length-append, Option, Some, None}
+use Rattle.std.specs.Prelude.{unwrap_or}
+use Rattle.std.specs.List.{AllByRecursion}
+use Rattle.std.specs.Simd.Lanes.{zip2}
+use Rattle.std.proofs.lemmas.List.{take-map, drop-map, length-map, length-take-le, length-drop, length-replicate}
+use Rattle.std.proofs.Math.Nat.{div-mul-le_self}
+use Rattle.arrow_buffers.specs.Bits.{Bits}
+use Rattle.arrow_bytes.specs.FixedSizeBinaries.{FixedSizeBinaries, IsSound, Refused, RefusedAt, size_of, count_of, values_of, slots}
+use Rattle.arrow_types.specs.Seen.{seen}
+use Rattle.arrow_types.specs.TypeData.{TypeData}
+use Rattle.arrow_types.specs.declared.datatype.ArrowDataType.{ArrowDataType}
+use Rattle.arrow_types.specs.declared.error.PolarsError.{PolarsError}
+use Rattle.arrow_types.specs.declared.error.PolarsError.TheVariants.{ComputeError}
+use Rattle.arrow_types.specs.declared.error.Reason.{Reason}
+use Rattle.arrow_types.specs.declared.error.Reason.TheVariants.{MaskLength, WrongLogicalType, NotCarried, NotMultiple}
+use Rattle.arrow_flat.specs.Natives.{octets}
+use Rattle.arrow_flat.specs.Pieces.{chunks}
+use Rattle.arrow_flat.specs.Primitives.{MaskFits, masked as option_masked}
+use Rattle.arrow_flat.specs.Slots.{Slot, bytes}
+use Rattle.arrow_flat.proofs.Masked.{slots_length}
+use Rattle.arrow_flat.proofs.Pieces.{chunk_count, whole_count, whole_multiple}
+use Rattle.arrow_meaning.specs.Canon.{canon, bytes_or}
+use Rattle.arrow_meaning.specs.Denote.{denote, masked}
+use Rattle.arrow_meaning.specs.Forms.{fixed_size_binaries_of, form_of}
+use Rattle.arrow_meaning.specs.Layouts.{fixed_size_binaries}
+use Rattle.arrow_meaning.specs.Nodes.{fixed_size_binary_layout}
+use Rattle.arrow_meaning.proofs.ByForm.{canon-form}
+use Rattle.arrow_meaning.proofs.Lengths.{length-masked}
+use Rattle.arrow_meaning.proofs.Lists.{map-map}
+use Rattle.arrow_canon.specs.Steps.{plain_mask, joined}
+use Rattle.arrow_canon.proofs.Forms.{sized_form}
+use Rattle.arrow_canon.proofs.MaskedSlots.{slot_of, joined_slots, mask_kept, plain_fits}
+use Rattle.arrow_canon.proofs.Octets.{octets_joined, octets_zeros, string}
+
+octets_chunks : (k n : ℕ) (bs : List ℕ) → chunks k n (octets bs) ≡ map octets (chunks k n bs)
+octets_chunks k zero bs = refl
+octets_chunks k (suc n) bs =
+    ap₂ (λ y ys. y ∷ ys) (take-map (λ b. b % 256) k bs) (ap (chunks k n) (drop-map (λ b. b % 256) k bs) ∙ octets_chunks k n (drop k bs))
+
+string_bytes : (k : ℕ) (x : Option (List ℕ)) → bytes_or (replicate k 0) (slot_of string x) ≡ octets (unwrap_or x (replicate k 0))
+string_bytes k None = octets_zeros k
+string_bytes k (Some x) = refl
+
+-- the canonical layout of pieces of one size
+pieces_canonical : (t : TypeData) (k : ℕ) (m : Option Bits) (ps : List (List ℕ)) → form_of t ≡ fixed_size_binaries_of k → MaskFits m (length ps)
+    → canon t (masked m (map string ps)) ≡ fixed_size_binaries t (plain_mask m) k (length ps) (octets (joined k (option_masked m ps)))
+pieces_canonical t k m ps form fits =
+    let s : List Slot = masked m (map string ps) in
+    let zeros : List ℕ = replicate k 0 in
+    canon-form t (fixed_size_binaries_of k) s form
+    ∙ ap (λ b. fixed_size_binaries t b k (length s) (flat_map (bytes_or zeros) s)) (mask_kept string (λ x. refl) m ps fits)
+    ∙ ap (λ n. fixed_size_binaries t (plain_mask m) k n (flat_map (bytes_or zeros) s)) (length-masked m (map string ps) ∙ length-map ps string)
+    ∙ ap (fixed_size_binaries t (plain_mask m) k (length ps))
+    (joined_slots string (bytes_or zeros) (λ x. octets (unwrap_or x zeros)) (string_bytes k) m ps fits ∙ octets_joined (λ x. unwrap_or x zeros) (option_masked m ps))
+
+-- ---- how many bytes there are
+
+abbrev IsSized : ℕ → List ℕ → Type 0
+IsSized k x = length x ≡ k
+
+chunks_sized : (k n : ℕ) (bs : List ℕ) → n * k ≤ length bs → AllByRecursion (IsSized k) (chunks k n bs)
+chunks_sized k zero bs h = tt
+chunks_sized k (suc n) bs h =
+    let q : k + n * k ≤ length bs = omega arith in
+    (length-take-le k bs (omega arith), chunks_sized k n (drop k bs) (omega (arith, length-drop k bs)))
+
+abbrev value_or : ℕ → Option (List ℕ) → List ℕ
+value_or k x = unwrap_or x (replicate k 0)
+
+one_sized : (k : ℕ) (bit : Bool) (x : List ℕ) → length x ≡ k → length (value_or k (cond bit (Some x) None)) ≡ k
+one_sized k true x h = h
+one_sized k false x h = length-replicate k 0
+
+masked_sized : (k : ℕ) (m : Option Bits) (ps : List (List ℕ)) → AllByRecursion (IsSized k) ps → AllByRecursion (λ x. length (value_or k x) ≡ k) (option_masked m ps)
+masked_sized k None [] h = tt
+masked_sized k None (p ∷ ps) h = (h.0, masked_sized k None ps h.1)
+masked_sized k (Some b) ps h = by b.bits ps h
+  where
+    by : (bits : List Bool) (ps : List (List ℕ)) → AllByRecursion (IsSized k) ps
+        → AllByRecursion (λ x. length (value_or k x) ≡ k) (zip2 (λ bit x. cond bit (Some x) None) bits ps)
+    by [] ps h = tt
+    by (bit ∷ bits) [] h = tt
+    by (bit ∷ bits) (p ∷ ps) h = (one_sized k bit p h.0, by bits ps h.1)
+
+joined_sized : (k : ℕ) (s : List (Option (List ℕ))) → AllByRecursion (λ x. length (value_or k x) ≡ k) s → length (joined k s) ≡ length s * k
+joined_sized k [] h = omega arith
+joined_sized k (x ∷ s) h =
+    let q : length (joined k s) ≡ length s * k = joined_sized k s h.1 in
+    let e : k + length s * k ≡ suc (length s) * k = omega arith in
+    length-append (value_or k x) (joined k s) ∙ ap₂ (λ m n. m + n) h.0 q ∙ e
+
+pieces_count : (a : FixedSizeBinaries) → length (values_of a) ≡ count_of a
+pieces_count a = chunk_count a.size (count_of a) a.values
+
+pieces_fit : (a : FixedSizeBinaries) → MaskFits a.mask (count_of a) → MaskFits a.mask (length (values_of a))
+pieces_fit a fits = subst (MaskFits a.mask) (sym (pieces_count a)) fits
+
+joined_length : (a : FixedSizeBinaries) → MaskFits a.mask (count_of a) → length (joined a.size (slots a)) ≡ count_of a * a.size
+joined_length a fits =
+    let sized = chunks_sized a.size (count_of a) a.values (div-mul-le_self (length a.values) a.size) in
+    joined_sized a.size (slots a) (masked_sized a.size a.mask (values_of a) sized)
+    ∙ ap (λ n. n * a.size) (slots_length a.mask (values_of a) (pieces_fit a fits) ∙ pieces_count a)
+
+joined_count : (a : FixedSizeBinaries) → 0 < a.size → MaskFits a.mask (count_of a) → length (joined a.size (slots a)) / a.size ≡ count_of a
+joined_count a positive fits = ap (λ n. n / a.size) (joined_length a fits) ∙ whole_count (count_of a) a.size positive
+
+-- ---- the layout
+
+-- an array of canonical parts is canonical
+pub canonical_sized : (a b : FixedSizeBinaries) → IsSound a.dtype a.size a.mask (length a.values)
+    → b.dtype ≡ a.dtype → b.size ≡ a.size → b.values ≡ joined a.size (slots a) → b.mask ≡ plain_mask a.mask
+    → fixed_size_binary_layout b ≡ canon (seen a.dtype) (denote (fixed_size_binary_layout a))
+canonical_sized a b sound dtype size values mask =
+    let t = seen a.dtype in
+    let k = a.size in
+    let bs = joined k (slots a) in
+    ap (λ d. fixed_size_binaries (seen d) b.mask b.size (length b.values / b.size) (octets b.values)) dtype
+    ∙ ap (λ m. fixed_size_binaries t m b.size (length b.values / b.size) (octets b.values)) mask
+    ∙ ap (λ j. fixed_size_binaries t (plain_mask a.mask) j (length b.values / j) (octets b.values)) size
+    ∙ ap (λ vs. fixed_size_binaries t (plain_mask a.mask) k (length vs / k) (octets vs)) values
+    ∙ ap (λ n. fixed_size_binaries t (plain_mask a.mask) k n (octets bs)) (joined_count a sound.positive sound.fits ∙ sym (pieces_count a))
+    ∙ sym
+    (ap (λ ys. canon t (masked a.mask (map bytes ys))) (octets_chunks k (count_of a) a.values)
+    ∙ ap (λ ys. canon t (masked a.mask ys)) (map-map bytes octets (values_of a))
+    ∙ pieces_canonical t k a.mask (values_of a) (sized_form t k sound.sized) (pieces_fit a sound.fits))
+
+-- ---- no array refuses such parts
+
+not_refused_at : (reason : Reason) (k : ℕ) (m : Option Bits) (n : ℕ) → 0 < k → n % k ≡ 0 → MaskFits m (n / k) → RefusedAt reason (Some k) m n → ⊥
+not_refused_at WrongLogicalType k m n p e f h = cc
+not_refused_at NotCarried k m n p e f h = let same : k ≡ 0 = cc in omega arith
+not_refused_at NotMultiple k m n p e f h = h.1 e
+not_refused_at MaskLength k m n p e f h = h.2 f
+not_refused_at _ k m n p e f h = h
+
+not_refused : (error : PolarsError) (t : ArrowDataType) (k : ℕ) (m : Option Bits) (n : ℕ) → size_of (seen t) ≡ Some k → 0 < k → n % k ≡ 0 → MaskFits m (n / k)
+    → Refused error t m n → ⊥
+not_refused (ComputeError reason) t k m n s p e f h = not_refused_at reason k m n p e f (subst (λ o. RefusedAt reason o m n) s h)
+not_refused _ t k m n s p e f h = h
+
+pub canonical_fits_size : (a : FixedSizeBinaries) (t : ArrowDataType) (m : Option Bits) (vs : List ℕ) (error : PolarsError) → IsSound a.dtype a.size a.mask (length a.values)
+    → t ≡ a.dtype → m ≡ plain_mask a.mask → vs ≡ joined a.size (slots a) → Refused error t m (length vs) → ⊥
+canonical_fits_size a t m vs error sound dtype mask values h =
+    let k = a.size in
+    let bs = joined k (slots a) in
+    let P : ArrowDataType → Type 0 = λ t. Refused error t m (length vs) in
+    let Q : Option Bits → Type 0 = λ m. Refused error a.dtype m (length vs) in
+    let R : List ℕ → Type 0 = λ vs. Refused error a.dtype (plain_mask a.mask) (length vs) in
+    not_refused error a.dtype k (plain_mask a.mask) (length bs) sound.sized sound.positive
+    (ap (λ n. n % k) (joined_length a sound.fits) ∙ whole_multiple (count_of a) k sound.positive)
+    (subst (MaskFits (plain_mask a.mask)) (sym (joined_count a sound.positive sound.fits)) (plain_fits a.mask (count_of a) sound.fits))
+    (subst R values (subst Q mask (subst P dtype h)))
+
+-- the size is that of the type
+pub one_size : (t u : ArrowDataType) (j k : ℕ) → t ≡ u → size_of (seen t) ≡ Some j → size_of (seen u) ≡ Some k → j ≡ k
+one_size t u j k e h l =
+    let both : Some j ≡ Some k = sym h ∙ ap (λ d. size_of (seen d)) e ∙ l in
+    cc

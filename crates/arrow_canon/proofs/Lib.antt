@@ -1,0 +1,9 @@
+pub mod Binaries
+pub mod Booleans
+pub mod FixedSizes
+pub mod Forms
+pub mod MaskedSlots
+pub mod Octets
+pub mod Primitives
+pub mod Strings
+pub mod Views

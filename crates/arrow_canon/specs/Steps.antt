@@ -1,0 +1,20 @@
+-- The parts of canonical arrays, by the mask and the optional values of an array.
+use Rattle.std.specs.Prelude.{ℕ, List, [], map, length, flat_map, replicate, unwrap_or, Option, Some, None}
+use Rattle.arrow_buffers.specs.Bits.{Bits, needed_mask}
+
+-- The mask with no bits before its own; none where no bit is unset.
+abbrev pub plain_mask : Option Bits → Option Bits
+plain_mask None = None
+plain_mask (Some b) = needed_mask b.bits
+
+-- The values, and another where there is none.
+abbrev pub values_or : {T : Type 0} → T → List (Option T) → List T
+values_or d s = map (λ x. unwrap_or x d) s
+
+-- The byte strings behind one another, and so many zeros where there is none.
+abbrev pub joined : ℕ → List (Option (List ℕ)) → List ℕ
+joined n s = flat_map (λ x. unwrap_or x (replicate n 0)) s
+
+-- The lengths of the byte strings, and 0 where there is none.
+abbrev pub lengths : List (Option (List ℕ)) → List ℕ
+lengths s = map (λ x. length (unwrap_or x [])) s

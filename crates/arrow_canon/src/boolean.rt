@@ -1,0 +1,51 @@
+//! The canonical array of bits.
+ghost use Rattle.std.specs.Prelude.{◌≡◌, false, length as count, Some, IfOk};
+ghost use Rattle.arrow_buffers.specs.Bits.{plain};
+ghost use Rattle.arrow_flat.specs.Booleans.{slots};
+ghost use Rattle.arrow_flat.specs.Primitives.{MaskFits};
+ghost use Rattle.arrow_types.specs.Seen.{seen};
+ghost use Rattle.arrow_types.specs.Types.{physical_of};
+ghost use Rattle.arrow_types.specs.declared.datatype.PhysicalType.TheVariants as physical;
+ghost use Rattle.arrow_meaning.specs.Denote.{denote};
+ghost use Rattle.arrow_meaning.specs.Canon.{canon};
+ghost use Rattle.arrow_meaning.specs.Nodes.{boolean_layout};
+ghost use Rattle.arrow_canon.specs.Steps.{values_or};
+
+use crate::mask::{canonical_mask, plain_bits};
+use arrow_buffers::Bitmap;
+use arrow_flat::BooleanArray;
+use arrow_types::{ArrowDataType, Mem};
+use std::alloc::Global;
+
+/// The canonical array of an array's slots: false under nulls, and no bits before the first.
+pub fn canonical_boolean(alloc: Global, array: &BooleanArray) -> Mem<BooleanArray>
+    ensures { IfOk result (λ a. boolean_layout a ≡ canon (seen array.now.dtype) (denote (boolean_layout array.now))) }
+{
+    let dtype = array.dtype().try_clone(alloc)?;
+    let values = canonical_bits(alloc, array)?;
+    let validity = canonical_mask(alloc, array.validity())?;
+    Ok(fitted(dtype, values, validity))
+}
+
+/// The bits, and unset ones under nulls.
+fn canonical_bits(alloc: Global, array: &BooleanArray) -> Mem<Bitmap>
+    ensures { IfOk result (λ b. b ≡ plain (values_or false (slots array.now))) }
+{
+    array.dtype();
+    match array.validity() {
+        None => plain_bits(alloc, array.values()),
+        Some(mask) => array.values().and(alloc, mask),
+    }
+}
+
+/// The array of parts whose mask fits.
+fn fitted(dtype: ArrowDataType, values: Bitmap, validity: Option<Bitmap>) -> BooleanArray
+    requires fits { MaskFits validity (count values.bits) }
+    requires stored { physical_of (seen dtype) ≡ Some physical.Boolean }
+    ensures { result ≡ record { dtype = dtype; values = values; mask = validity } }
+{
+    match BooleanArray::try_new(dtype, values, validity) {
+        Ok(array) => array,
+        Err(_) => unreachable!(),
+    }
+}

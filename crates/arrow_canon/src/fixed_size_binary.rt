@@ -1,0 +1,30 @@
+//! The canonical array of byte strings of one size.
+ghost use Rattle.std.specs.Prelude.{◌≡◌, IfOk};
+ghost use Rattle.arrow_types.specs.Seen.{seen};
+ghost use Rattle.arrow_meaning.specs.Denote.{denote};
+ghost use Rattle.arrow_meaning.specs.Canon.{canon};
+ghost use Rattle.arrow_meaning.specs.Nodes.{fixed_size_binary_layout};
+
+use crate::joined::joined_bytes;
+use crate::mask::canonical_mask;
+use arrow_buffers::Buffer;
+use arrow_bytes::FixedSizeBinaryArray;
+use arrow_types::Mem;
+use std::alloc::Global;
+
+/// The canonical array of an array's slots: zeros under nulls.
+pub fn canonical_fixed_size_binary(
+    alloc: Global,
+    array: &FixedSizeBinaryArray,
+) -> Mem<FixedSizeBinaryArray>
+    ensures { IfOk result (λ a. fixed_size_binary_layout a ≡ canon (seen array.now.dtype) (denote (fixed_size_binary_layout array.now))) }
+{
+    let dtype = array.dtype().try_clone(alloc)?;
+    let values = joined_bytes(alloc, array, array.size(), array.values().len())?;
+    let values = Buffer::from_vec(alloc, values)?;
+    let validity = canonical_mask(alloc, array.validity())?;
+    match FixedSizeBinaryArray::try_new(dtype, values, validity) {
+        Ok(canonical) => Ok(canonical),
+        Err(_) => unreachable!(),
+    }
+}

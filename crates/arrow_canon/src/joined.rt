@@ -1,0 +1,85 @@
+//! The bytes of slots behind one another, and where each ends.
+ghost use Rattle.std.specs.Prelude.{◌≡◌, ◌++◌, ◌<◌, pos, map, length as count, [], replicate, sum, unwrap_or, IfOk, OnOk};
+ghost use Rattle.arrow_flat.specs.Pieces.{seen_bytes};
+ghost use Rattle.arrow_meaning.specs.Canon.{offsets};
+ghost use Rattle.arrow_canon.specs.Steps.{joined, lengths};
+
+use crate::byte_slots::ByteSlots;
+use arrow_buffers::{Offset, OffsetError, Offsets, OffsetsBuffer};
+use arrow_types::Mem;
+use std::alloc::{AllocError, Global};
+
+/// The bytes of the slots in order, and so many zeros for a null, with room made for `room` bytes.
+pub(crate) fn joined_bytes<A: ByteSlots>(
+    alloc: Global,
+    array: &A,
+    zeros: usize,
+    room: usize,
+) -> Mem<Vec<u8>>
+    ensures { IfOk result (λ v. v.items ≡ joined zeros (A.slots array.now)) }
+{
+    let mut bytes = Vec::new(alloc);
+    bytes.reserve(room)?;
+    for i in 0..array.slot_count() {
+        push_slot(&mut bytes, array.slot(i), zeros)?;
+    }
+    Ok(bytes)
+}
+
+/// Appends the bytes of a slot, or so many zeros for a null.
+fn push_slot(bytes: &mut Vec<u8>, slot: Option<&[u8]>, zeros: usize) -> Mem<()>
+    ensures { OnOk result (bytes.new.items ≡ bytes.old.items ++ unwrap_or (seen_bytes slot.entry) (replicate zeros 0)) }
+{
+    match slot {
+        Some(value) => bytes.extend_from_slice(value),
+        None => push_zeros(bytes, zeros),
+    }
+}
+
+/// Appends so many zeros.
+fn push_zeros(bytes: &mut Vec<u8>, zeros: usize) -> Mem<()>
+    ensures { OnOk result (bytes.new.items ≡ bytes.old.items ++ replicate zeros 0) }
+{
+    let Some(end) = bytes.len().checked_add(zeros) else {
+        return Err(AllocError);
+    };
+    bytes.resize(end, 0)
+}
+
+/// The lengths of the slots in order, 0 for a null.
+pub(crate) fn slot_lengths<A: ByteSlots>(alloc: Global, array: &A) -> Mem<Vec<usize>>
+    ensures { IfOk result (λ v. v.items ≡ lengths (A.slots array.now)) }
+{
+    let mut lengths = Vec::new(alloc);
+    lengths.reserve(array.slot_count())?;
+    for i in 0..array.slot_count() {
+        lengths.push(length_of(array.slot(i)))?;
+    }
+    Ok(lengths)
+}
+
+/// The count of bytes of a slot, 0 for a null.
+fn length_of(slot: Option<&[u8]>) -> usize
+    ensures { result ≡ count (unwrap_or (seen_bytes slot.entry) []) }
+{
+    match slot {
+        Some(value) => value.len(),
+        None => 0,
+    }
+}
+
+/// The offsets from 0 of slots of these lengths.
+pub(crate) fn offsets_from_zero<O: Offset>(
+    alloc: Global,
+    lengths: &[usize],
+) -> Mem<OffsetsBuffer<O>>
+    requires { sum lengths.now < O.limit }
+    ensures { IfOk result (λ o. map O.number o ≡ offsets lengths.now) }
+{
+    let mut ends = Offsets::<O>::new(alloc)?;
+    match ends.try_extend_from_lengths(lengths) {
+        Ok(()) => ends.freeze(),
+        Err(OffsetError::OutOfMemory) => Err(AllocError),
+        Err(_) => unreachable!(),
+    }
+}

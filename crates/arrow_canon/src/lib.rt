@@ -1,0 +1,21 @@
+//! The canonical array of an array's slots, for each layout without children.
+#![tactic(auto)]
+
+mod binary;
+mod boolean;
+mod byte_slots;
+mod fixed_size_binary;
+mod joined;
+mod mask;
+mod normal;
+mod primitive;
+#[cfg(test)]
+mod tests;
+mod view;
+
+pub use binary::{canonical_binary, canonical_utf8};
+pub use boolean::canonical_boolean;
+pub use fixed_size_binary::canonical_fixed_size_binary;
+pub use normal::normalized;
+pub use primitive::canonical_primitive;
+pub use view::canonical_view;

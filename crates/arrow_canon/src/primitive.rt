@@ -1,0 +1,56 @@
+//! The canonical array of values of fixed width.
+ghost use Rattle.std.specs.Prelude.{◌≡◌, length as count, Some, IfOk};
+ghost use Rattle.arrow_flat.specs.Primitives.{MaskFits, slots};
+ghost use Rattle.arrow_types.specs.Seen.{seen};
+ghost use Rattle.arrow_types.specs.Types.{physical_of};
+ghost use Rattle.arrow_types.specs.declared.datatype.PhysicalType.TheVariants as physical;
+ghost use Rattle.arrow_meaning.specs.Denote.{denote};
+ghost use Rattle.arrow_meaning.specs.Canon.{canon};
+ghost use Rattle.arrow_meaning.specs.Nodes.{primitive_layout};
+ghost use Rattle.arrow_canon.specs.Steps.{values_or};
+
+use crate::mask::canonical_mask;
+use arrow_buffers::{Bitmap, Buffer};
+use arrow_flat::{NativeType, PrimitiveArray};
+use arrow_types::{ArrowDataType, Mem};
+use std::alloc::Global;
+
+/// The canonical array of an array's slots: zeros under nulls.
+pub fn canonical_primitive<T: NativeType>(
+    alloc: Global,
+    array: &PrimitiveArray<T>,
+) -> Mem<PrimitiveArray<T>>
+    ensures { IfOk result (λ a. primitive_layout T.parts a ≡ canon (seen array.now.dtype) (denote (primitive_layout T.parts array.now))) }
+{
+    let dtype = array.dtype().try_clone(alloc)?;
+    let values = canonical_values(alloc, array)?;
+    let values = Buffer::from_vec(alloc, values)?;
+    let validity = canonical_mask(alloc, array.validity())?;
+    Ok(fitted(dtype, values, validity))
+}
+
+/// The values, and zeros under nulls.
+fn canonical_values<T: NativeType>(alloc: Global, array: &PrimitiveArray<T>) -> Mem<Vec<T>>
+    ensures { IfOk result (λ v. v.items ≡ values_or T.zero (slots array.now)) }
+{
+    array
+        .iter()
+        .map(|slot| slot.unwrap_or(T::zero()))
+        .collect(alloc)
+}
+
+/// The array of parts whose mask fits.
+fn fitted<T: NativeType>(
+    dtype: ArrowDataType,
+    values: Buffer<T>,
+    validity: Option<Bitmap>,
+) -> PrimitiveArray<T>
+    requires fits { MaskFits validity (count values) }
+    requires stored { physical_of (seen dtype) ≡ Some (physical.Primitive T.PRIMITIVE) }
+    ensures { result ≡ record { dtype = dtype; values = values; mask = validity } }
+{
+    match PrimitiveArray::try_new(dtype, values, validity) {
+        Ok(array) => array,
+        Err(_) => unreachable!(),
+    }
+}

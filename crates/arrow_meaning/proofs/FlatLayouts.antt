@@ -1,0 +1,255 @@
+-- Flat arrays as layouts: well formed, cut, and under another mask.
+use Rattle.std.proofs.Common.{◌≡◌, ◌+◌, ◌-◌, ◌*◌, ◌/◌, ◌%◌, ◌^◌, ◌<◌, ◌≤◌, ℕ, zero, suc, Bool, true, false, cond, List, [], ◌∷◌, length, map, take, drop, refl, ap, sym, ◌∙◌, subst, arith, Option, Some, None}
+use Rattle.std.specs.Prelude.{ℤ, pos, negsuc, pred, ◌≤ℤ◌, ◌<ℤ◌}
+use Rattle.std.specs.List.{AllByRecursion, list_all}
+use Rattle.std.proofs.lemmas.Int.{ints}
+use Rattle.std.proofs.lemmas.List.{take-map, drop-map, length-map}
+use Rattle.std.proofs.Math.Nat.{mod-add-div}
+use Rattle.arrow_buffers.specs.Bits.{Bits, cut_bits, count_unset}
+use Rattle.arrow_buffers.proofs.Bytes.{none_unset, some_unset}
+use Rattle.arrow_buffers.proofs.Windows.{window_length}
+use Rattle.arrow_buffers.specs.Offsets.{end_from, end_of}
+use Rattle.arrow_buffers.specs.Offsets as buffers
+use Rattle.arrow_types.specs.Carried.{IsBelow}
+use Rattle.arrow_types.specs.Select.{to_nat}
+use Rattle.arrow_types.specs.Seen.{seen}
+use Rattle.arrow_types.specs.TypeData.{TypeData}
+use Rattle.arrow_types.specs.Types.{physical_of}
+use Rattle.arrow_types.specs.declared.datatype.PhysicalType.TheVariants as physical
+use Rattle.arrow_flat.specs.Booleans.{Booleans}
+use Rattle.arrow_flat.specs.Booleans as bools
+use Rattle.arrow_flat.specs.Natives.{octets}
+use Rattle.arrow_flat.specs.Pieces.{pieces, AreTexts}
+use Rattle.arrow_flat.specs.Primitives.{Primitives, MaskFits as MaskCovers, IsLed, IsArray}
+use Rattle.arrow_flat.specs.Primitives as flat
+use Rattle.arrow_flat.proofs.Pieces.{span_within, whole_count}
+use Rattle.arrow_bytes.specs.Binaries.{Binaries}
+use Rattle.arrow_bytes.specs.Binaries as bytes
+use Rattle.arrow_bytes.specs.FixedSizeBinaries.{FixedSizeBinaries, count_of}
+use Rattle.arrow_bytes.specs.FixedSizeBinaries as sized
+use Rattle.arrow_meaning.specs.Cut.{part, if_needed, cut_mask, cut}
+use Rattle.arrow_meaning.specs.Forms.{Form, form_of, booleans_of, primitives_of, binaries_of, fixed_size_binaries_of, views_of, offset_limit, large_by, text_by}
+use Rattle.arrow_views.specs.ViewArrays.{ViewArray, AreTextsIf, values_in}
+use Rattle.arrow_views.specs.ViewArrays as viewed
+use Rattle.arrow_meaning.specs.Layouts.{booleans, primitives, binaries, fixed_size_binaries, views}
+use Rattle.arrow_meaning.specs.Nodes.{boolean_layout, primitive_layout, binary_layout, fixed_size_binary_layout, view_layout}
+use Rattle.arrow_meaning.specs.SlotsOf.{IsTextIf, AreBytes}
+use Rattle.arrow_meaning.specs.WellFormed.{MaskFits, IsColumn, WellFormed, AreOffsets, AreOffsetsTo, AscendTo}
+use Rattle.arrow_meaning.proofs.FlatKinds.{flat_form, sized_form}
+use Rattle.arrow_meaning.proofs.Octets.{are_octets, octets_count, texts_of_octets}
+use Rattle.arrow_meaning.proofs.Physical.{binary_kind}
+use Rattle.arrow_meaning.proofs.Primitives.{mask_fits}
+
+-- ---- booleans
+
+pub boolean_form : (a : Booleans) → bools.IsSound a.dtype a.mask a.values → form_of (seen a.dtype) ≡ booleans_of
+boolean_form a sound = flat_form (seen a.dtype) physical.Boolean sound.array.stored tt
+
+pub well_formed_boolean : (a : Booleans) → bools.IsSound a.dtype a.mask a.values → length a.values.bits < 2 ^ 64 → WellFormed (boolean_layout a)
+well_formed_boolean a sound short =
+    (record { carried = sound.array.carried; of_form = boolean_form a sound; mask = mask_fits a.mask (length a.values.bits) sound.array.fits sound.array.led; count = short }, sound.led)
+
+-- ---- offsets
+
+-- those of a buffer are below their limit and ascend
+all_below : (limit : ℕ) (least : ℤ) (os : List ℤ) → pos 0 ≤ℤ least → buffers.Ascend limit least os → AllByRecursion (IsBelow limit) os
+all_below limit least [] p h = tt
+all_below limit least (pos n ∷ os) p h = let q = h.1 in (omega (arith, ints, q), all_below limit (pos n) os (omega (arith, ints)) h.2)
+all_below limit (pos k) (negsuc n ∷ os) p h = absurd (let q = h.0 in omega (arith, ints, q))
+all_below limit (negsuc k) (negsuc n ∷ os) p h = absurd (omega (arith, ints, p))
+
+ascend_to : (limit top a : ℕ) (os : List ℤ) → buffers.Ascend limit (pos a) os → end_from a os ≤ top → AscendTo top a (map to_nat os)
+ascend_to limit top a [] h e = e
+ascend_to limit top a (pos n ∷ os) h e = let q = h.0 in (omega (arith, ints, q), ascend_to limit top n os h.2 e)
+ascend_to limit top a (negsuc n ∷ os) h e = absurd (let q = h.0 in omega (arith, ints, q))
+
+pub are_offsets : (limit top : ℕ) (os : List ℤ) → buffers.AreOffsets limit os → end_of os ≤ top → AreOffsets limit top os
+are_offsets limit top [] h e = absurd h
+are_offsets limit top (pos n ∷ os) h e =
+    record { in_range = all_below limit (pos 0) (pos n ∷ os) (omega (arith, ints)) h; ascend = ascend_to limit top n os h.2 e }
+are_offsets limit top (negsuc n ∷ os) h e = absurd (let q = h.0 in omega (arith, ints, q))
+
+-- ---- byte strings and texts
+
+kind_form : (large text : Bool) (t : TypeData) → physical_of t ≡ Some (binary_kind large text) → form_of t ≡ binaries_of large text
+kind_form false false t e = flat_form t physical.Binary e tt
+kind_form false true t e = flat_form t physical.Utf8 e tt
+kind_form true false t e = flat_form t physical.LargeBinary e tt
+kind_form true true t e = flat_form t physical.LargeUtf8 e tt
+
+bytes_kind : (large : Bool) → bytes.binary_layout large ≡ binary_kind large false
+bytes_kind true = refl
+bytes_kind false = refl
+
+text_kind : (large : Bool) → bytes.text_layout large ≡ binary_kind large true
+text_kind true = refl
+text_kind false = refl
+
+pub binary_form : (large : Bool) (t : TypeData) → physical_of t ≡ Some (bytes.binary_layout large) → form_of t ≡ binaries_of large false
+binary_form large t e = kind_form large false t (e ∙ ap Some (bytes_kind large))
+
+pub utf8_form : (large : Bool) (t : TypeData) → physical_of t ≡ Some (bytes.text_layout large) → form_of t ≡ binaries_of large true
+utf8_form large t e = kind_form large true t (e ∙ ap Some (text_kind large))
+
+same_naturals : (os : List ℤ) → map buffers.to_nat os ≡ map to_nat os
+same_naturals [] = refl
+same_naturals (pos n ∷ os) = ap (λ ns. n ∷ ns) (same_naturals os)
+same_naturals (negsuc n ∷ os) = ap (λ ns. 0 ∷ ns) (same_naturals os)
+
+all_bytes : (xs : List (List ℕ)) → AllByRecursion (IsTextIf false) xs
+all_bytes [] = tt
+all_bytes (x ∷ xs) = (tt, all_bytes xs)
+
+all_texts : (xs : List (List ℕ)) → AreTexts xs → AllByRecursion (IsTextIf true) xs
+all_texts [] h = tt
+all_texts (x ∷ xs) h = (h.0, all_texts xs h.1)
+
+module _ {O : Type 0} (number : O → ℤ) where
+  by_parts : (large text : Bool) (limit : ℕ) (a : Binaries O) → IsArray (binary_kind large text) a.dtype a.mask (pred (length (map number a.offsets))) → end_of (map number a.offsets) ≤ length a.values
+      → limit ≡ cond large (2 ^ 63) (2 ^ 31) → buffers.AreOffsets limit (map number a.offsets) → pred (length (map number a.offsets)) < 2 ^ 64 → length a.values < 2 ^ 64
+      → AllByRecursion (IsTextIf text) (pieces (map to_nat (map number a.offsets)) (octets a.values)) → WellFormed (binary_layout number a)
+  by_parts large text limit a array within e ascend slots short texts =
+      let form = kind_form large text (seen a.dtype) array.stored in
+      let l : large ≡ large_by (form_of (seen a.dtype)) = sym (ap large_by form) in
+      let t : text ≡ text_by (form_of (seen a.dtype)) = sym (ap text_by form) in
+      let count = octets_count a.values in (
+        subst (λ x. IsColumn (seen a.dtype) (binaries_of x (text_by (form_of (seen a.dtype)))) a.mask (pred (length (map number a.offsets)))) l
+            (subst (λ x. IsColumn (seen a.dtype) (binaries_of large x) a.mask (pred (length (map number a.offsets)))) t
+            (record { carried = array.carried; of_form = form; mask = mask_fits a.mask (pred (length (map number a.offsets))) array.fits array.led; count = slots })),
+        subst (λ n. AreOffsets n (length (octets a.values)) (map number a.offsets)) (e ∙ ap (λ x. cond x (2 ^ 63) (2 ^ 31)) l)
+            (subst (λ n. AreOffsets limit n (map number a.offsets)) (sym count) (are_offsets limit (length a.values) (map number a.offsets) ascend within)),
+        are_octets a.values,
+        omega (arith, count, short),
+        subst (λ x. AllByRecursion (IsTextIf x) (pieces (map to_nat (map number a.offsets)) (octets a.values))) t texts,
+      )
+
+  pub well_formed_binary : (large : Bool) (limit : ℕ) (a : Binaries O) → bytes.IsSound (bytes.binary_layout large) a.dtype a.mask (map number a.offsets) (length a.values)
+      → limit ≡ cond large (2 ^ 63) (2 ^ 31) → buffers.AreOffsets limit (map number a.offsets) → pred (length (map number a.offsets)) < 2 ^ 64 → length a.values < 2 ^ 64 → WellFormed (binary_layout number a)
+  well_formed_binary large limit a sound e ascend slots short =
+      by_parts large false limit a (subst (λ k. IsArray k a.dtype a.mask (pred (length (map number a.offsets)))) (bytes_kind large) sound.array) sound.within e ascend slots short
+      (all_bytes (pieces (map to_nat (map number a.offsets)) (octets a.values)))
+
+  pub well_formed_utf8 : (large : Bool) (limit : ℕ) (a : Binaries O) → bytes.IsSound (bytes.text_layout large) a.dtype a.mask (map number a.offsets) (length a.values)
+      → AreTexts (pieces (map buffers.to_nat (map number a.offsets)) a.values)
+      → limit ≡ cond large (2 ^ 63) (2 ^ 31) → buffers.AreOffsets limit (map number a.offsets) → pred (length (map number a.offsets)) < 2 ^ 64 → length a.values < 2 ^ 64 → WellFormed (binary_layout number a)
+  well_formed_utf8 large limit a sound texts e ascend slots short =
+      by_parts large true limit a (subst (λ k. IsArray k a.dtype a.mask (pred (length (map number a.offsets)))) (text_kind large) sound.array) sound.within e ascend slots short
+      (all_texts (pieces (map to_nat (map number a.offsets)) (octets a.values))
+      (texts_of_octets (map to_nat (map number a.offsets)) a.values (subst (λ ns. AreTexts (pieces ns a.values)) (same_naturals (map number a.offsets)) texts)))
+
+-- as many slots as a usize counts
+pub slots_short : {O : Type 0} (number : O → ℤ) (os : List O) (n : ℕ) → n + 1 ≡ length os → n < 2 ^ 64 → pred (length (map number os)) < 2 ^ 64
+slots_short number os n e l =
+    let same : pred (length (map number os)) ≡ n = ap pred (length-map os number ∙ sym e) ∙ before n in
+    omega (arith, same, l)
+  where
+    before : (n : ℕ) → pred (n + 1) ≡ n
+    before n = let q : n + 1 ≡ suc n = omega arith in ap pred q
+
+-- ---- byte strings of one size
+
+pub well_formed_sized : (a : FixedSizeBinaries) → sized.IsSound a.dtype a.size a.mask (length a.values) → length a.values < 2 ^ 64 → count_of a < 2 ^ 64 → WellFormed (fixed_size_binary_layout a)
+well_formed_sized a sound short slots =
+    let count = octets_count a.values in
+    let whole : length a.values ≡ length a.values / a.size * a.size = multiple (length a.values) a.size sound.multiple in (
+      record { carried = sound.carried; of_form = sized_form (seen a.dtype) a.size sound.sized; mask = mask_fits a.mask (count_of a) sound.fits sound.led; count = slots },
+      count ∙ whole,
+      are_octets a.values,
+      omega (arith, count, short),
+    )
+  where
+    multiple : (n k : ℕ) → n % k ≡ 0 → n ≡ n / k * k
+    multiple n k e = let d = mod-add-div n k in let c : k * (n / k) ≡ n / k * k = omega arith in omega (arith, c, d, e)
+
+-- ---- parts
+
+-- the mask that a part keeps
+pub dropped : (b : Bits) (o n : ℕ) → count_unset (cut_bits b o n).bits ≡ 0 → None ≡ cut_mask o n (Some b)
+dropped b o n e = sym (ap (λ x. cond x None (Some (cut_bits b o n))) (none_unset (cut_bits b o n).bits e))
+
+pub kept : (b : Bits) (o n : ℕ) → (count_unset (cut_bits b o n).bits ≡ 0 → ⊥) → Some (cut_bits b o n) ≡ cut_mask o n (Some b)
+kept b o n h = sym (ap (λ x. cond x None (Some (cut_bits b o n))) (some_unset (cut_bits b o n).bits h))
+
+pub cut_fits : (m : Option Bits) (n o k : ℕ) → MaskCovers m n → o + k ≤ n → MaskCovers (cut_mask o k m) k
+cut_fits None n o k h l = tt
+cut_fits (Some b) n o k h l = by (list_all (λ c. c) (cut_bits b o k).bits)
+  where
+    by : (all : Bool) → MaskCovers (cond all None (Some (cut_bits b o k))) k
+    by true = tt
+    by false = sym (window_length b.bits o k (omega (arith, h, l)))
+
+pub part-map : {A B : Type 0} (f : A → B) (o n : ℕ) (xs : List A) → map f (take n (drop o xs)) ≡ part o n (map f xs)
+part-map f o n xs = sym (take-map f n (drop o xs)) ∙ ap (take n) (sym (drop-map f o xs))
+
+-- a mask that is cut fits the part
+pub fits_part : (m v : Option Bits) (len o n k : ℕ) → v ≡ cut_mask o n m → MaskCovers m len → o + n ≤ len → n ≡ k → MaskCovers v k
+fits_part m v len o n k e h l same = subst (MaskCovers v) same (subst (λ w. MaskCovers w n) (sym e) (cut_fits m len o n h l))
+
+-- counts of parts
+pub slots_part : {A : Type 0} (xs : List A) (o n : ℕ) → o + n < length xs → n ≡ pred (length (take (suc n) (drop o xs)))
+slots_part xs o n h = ap pred (window_length xs o (suc n) (omega arith))
+
+pub chunks_part : (xs : List ℕ) (k o n : ℕ) → 0 < k → o + n ≤ length xs / k → n ≡ length (take (n * k) (drop (o * k) xs)) / k
+chunks_part xs k o n p h = sym (whole_count n k p) ∙ ap (λ l. l / k) (window_length xs (o * k) (n * k) (span_within (length xs) k o n h))
+
+below_count : (n k : ℕ) → n ≤ pred k → 0 < k → n < k
+below_count n zero h p = absurd (omega (arith, p))
+below_count n (suc k) h p = omega (arith, h)
+
+pub before_last : {O : Type 0} (number : O → ℤ) (os : List O) (n i : ℕ) → i ≤ pred (length (map number os)) → n + 1 ≡ length os → i < length os
+before_last number os n i h e = below_count i (length os) (subst (λ k. i ≤ pred k) (length-map os number) h) (omega (arith, e))
+
+-- the layouts of parts
+pub booleans_part : (a b : Booleans) (v : Option Bits) (o n : ℕ) → b ≡ bools.cut a o n → v ≡ cut_mask o n a.mask
+    → booleans (seen b.dtype) v b.values ≡ cut (boolean_layout a) o n
+booleans_part a b v o n e m = ap (λ c. booleans (seen c.dtype) v c.values) e ∙ ap (λ w. booleans (seen a.dtype) w (cut_bits a.values o n)) m
+
+pub primitives_part : {T : Type 0} (parts : T → List ℤ) (a b : Primitives T) (v : Option Bits) (o n : ℕ) → b ≡ flat.cut a o n → v ≡ cut_mask o n a.mask
+    → primitives (seen b.dtype) v (map parts b.values) ≡ cut (primitive_layout parts a) o n
+primitives_part parts a b v o n e m =
+    ap (λ c. primitives (seen c.dtype) v (map parts c.values)) e ∙ ap (λ w. primitives (seen a.dtype) w (map parts (take n (drop o a.values)))) m
+    ∙ ap (primitives (seen a.dtype) (cut_mask o n a.mask)) (part-map parts o n a.values)
+
+pub binaries_part : {O : Type 0} (number : O → ℤ) (a b : Binaries O) (v : Option Bits) (o n : ℕ) → b ≡ bytes.cut a o n → v ≡ cut_mask o n a.mask
+    → binaries (seen b.dtype) v (map number b.offsets) (octets b.values) ≡ cut (binary_layout number a) o n
+binaries_part number a b v o n e m =
+    ap (λ c. binaries (seen c.dtype) v (map number c.offsets) (octets c.values)) e
+    ∙ ap (λ w. binaries (seen a.dtype) w (map number (take (suc n) (drop o a.offsets))) (octets a.values)) m
+    ∙ ap (λ os. binaries (seen a.dtype) (cut_mask o n a.mask) os (octets a.values)) (part-map number o (suc n) a.offsets)
+
+pub fixed_size_binaries_part : (a b : FixedSizeBinaries) (v : Option Bits) (o n : ℕ) → 0 < a.size → o + n ≤ count_of a → b ≡ sized.cut a o n → v ≡ cut_mask o n a.mask
+    → fixed_size_binaries (seen b.dtype) v b.size (count_of b) (octets b.values) ≡ cut (fixed_size_binary_layout a) o n
+fixed_size_binaries_part a b v o n p h e m =
+    let k = a.size in
+    ap (λ c. fixed_size_binaries (seen c.dtype) v c.size (count_of c) (octets c.values)) e
+    ∙ ap (λ w. fixed_size_binaries (seen a.dtype) w k (length (take (n * k) (drop (o * k) a.values)) / k) (octets (take (n * k) (drop (o * k) a.values)))) m
+    ∙ ap (λ i. fixed_size_binaries (seen a.dtype) (cut_mask o n a.mask) k i (octets (take (n * k) (drop (o * k) a.values)))) (sym (chunks_part a.values k o n p h))
+    ∙ ap (fixed_size_binaries (seen a.dtype) (cut_mask o n a.mask) k n) (part-map (λ b. b % 256) (o * k) (n * k) a.values)
+
+-- ---- views
+
+pub view_form : (text : Bool) (t : TypeData) → physical_of t ≡ Some (viewed.view_layout text) → form_of t ≡ views_of text
+view_form true t e = flat_form t physical.Utf8View e tt
+view_form false t e = flat_form t physical.BinaryView e tt
+
+texts_if : (text : Bool) (xs : List (List ℕ)) → AreTextsIf text xs → AllByRecursion (IsTextIf text) xs
+texts_if true xs h = all_texts xs h
+texts_if false xs h = all_bytes xs
+
+buffers_are_bytes : (raw : List (List ℕ)) → AllByRecursion AreBytes (map octets raw)
+buffers_are_bytes [] = tt
+buffers_are_bytes (bs ∷ raw) = (are_octets bs, buffers_are_bytes raw)
+
+pub well_formed_view : (text : Bool) (a : ViewArray) (raw : List (List ℕ)) → viewed.IsSound text a.dtype a.mask a.views a.buffers → map octets raw ≡ a.buffers → length a.views < 2 ^ 64 → WellFormed (view_layout a)
+well_formed_view text a raw sound e short =
+    let form = view_form text (seen a.dtype) sound.array.stored in
+    let t : text ≡ text_by (form_of (seen a.dtype)) = sym (ap text_by form) in (
+      subst (λ x. IsColumn (seen a.dtype) (views_of x) a.mask (length a.views)) t
+          (record { carried = sound.array.carried; of_form = form; mask = mask_fits a.mask (length a.views) sound.array.fits sound.array.led; count = short }),
+      sound.placed,
+      subst (AllByRecursion AreBytes) e (buffers_are_bytes raw),
+      subst (λ x. AllByRecursion (IsTextIf x) (values_in a.buffers a.views)) t (texts_if text (values_in a.buffers a.views) sound.texts),
+    )
+
+pub views_part : (a b : ViewArray) (v : Option Bits) (o n : ℕ) → b ≡ viewed.cut a o n → v ≡ cut_mask o n a.mask → views (seen b.dtype) v b.views b.buffers ≡ cut (view_layout a) o n
+views_part a b v o n e m = ap (λ c. views (seen c.dtype) v c.views c.buffers) e ∙ ap (λ w. views (seen a.dtype) w (take n (drop o a.views)) a.buffers) m

@@ -1,0 +1,8 @@
+use Rattle.std.proofs.Common.{◌≡◌, subst, false}
+use Rattle.std.specs.Prelude.{MatchOption}
+use Rattle.arrow_meaning.specs.Nodes.{HoldsBytes, binary_layout}
+use Rattle.arrow_meaning.proofs.array.ArrayRef.as_binary.Goals as goal
+
+pub returns : goal.returns
+returns g c =
+    subst (λ l. MatchOption c.binary_of.result (HoldsBytes g.O.Offset.IS_LARGE false l → ⊥) (λ a. binary_layout g.O.Offset.number a.now ≡ l)) c.node.ensures.same c.binary_of.ensures

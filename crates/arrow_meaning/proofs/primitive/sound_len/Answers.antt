@@ -1,6 +1,0 @@
-use Rattle.std.proofs.Common.{arith}
-use Rattle.arrow_meaning.proofs.Primitives.{well_formed_primitive}
-use Rattle.arrow_meaning.proofs.primitive.sound_len.Goals as goal
-
-pub returns-clause-sound : goal.returns-clause-sound
-returns-clause-sound g c = well_formed_primitive g.T.NativeType.PRIMITIVE g.T.NativeType.parts g.met.T.NativeType.parts_fit c.args.array.now c.dtype.ensures.sound (omega arith)

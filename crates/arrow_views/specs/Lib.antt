@@ -1,0 +1,3 @@
+pub mod ViewParts
+pub mod ViewBytes
+pub mod ViewArrays

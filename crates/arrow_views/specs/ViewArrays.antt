@@ -1,0 +1,89 @@
+-- What a contract sees of an array of byte strings or texts by views.
+use Rattle.std.specs.Prelude.{◌≡◌, ◌-◌, ℕ, Bool, true, false, List, length, map, take, drop, Option, Some, None}
+use Rattle.std.specs.Borrow.{Bor}
+use Rattle.std.specs.List.{AllByRecursion}
+use Rattle.arrow_buffers.specs.Bits.{Bits}
+use Rattle.arrow_types.specs.Seen.{seen}
+use Rattle.arrow_types.specs.Types.{physical_of}
+use Rattle.arrow_types.specs.declared.datatype.ArrowDataType.{ArrowDataType}
+use Rattle.arrow_types.specs.declared.datatype.PhysicalType.{PhysicalType}
+use Rattle.arrow_types.specs.declared.datatype.PhysicalType.TheVariants as physical
+use Rattle.arrow_types.specs.declared.error.PolarsError.{PolarsError}
+use Rattle.arrow_types.specs.declared.error.PolarsError.TheVariants.{ComputeError}
+use Rattle.arrow_types.specs.declared.error.Reason.{Reason}
+use Rattle.arrow_types.specs.declared.error.Reason.TheVariants.{ViewRange, NotUtf8}
+use Rattle.arrow_flat.specs.Natives.{octets}
+use Rattle.arrow_flat.specs.Pieces.{AreTexts}
+use Rattle.arrow_flat.specs.Primitives.{IsArray, MaskFits, cut_mask, half_mask, masked}
+use Rattle.arrow_flat.specs.Refusals as flat
+use Rattle.arrow_flat.specs.Views.{View, IsView, view_bytes}
+
+-- the type, the views of all slots, the buffers that hold the long values, and the mask
+pub record ViewArray : Type 0 where
+  pub dtype : ArrowDataType
+  pub views : List View
+  pub buffers : List (List ℕ)
+  pub mask : Option Bits
+
+-- The layout, by whether the values are texts.
+abbrev pub view_layout : Bool → PhysicalType
+view_layout true = physical.Utf8View
+view_layout false = physical.BinaryView
+
+abbrev pub AreViews : List (List ℕ) → List View → Type 0
+AreViews buffers views = AllByRecursion (IsView buffers) views
+
+abbrev pub values_in : List (List ℕ) → List View → List (List ℕ)
+values_in buffers views = map (view_bytes buffers) views
+
+-- Each value is UTF-8, where the values are texts.
+abbrev pub AreTextsIf : Bool → List (List ℕ) → Type 0
+AreTextsIf true values = AreTexts values
+AreTextsIf false values = Unit {0}
+
+-- What every such array keeps.
+pub record IsSound (text : Bool) (t : ArrowDataType) (m : Option Bits) (views : List View) (buffers : List (List ℕ)) : Type 0 where
+  pub array : IsArray (view_layout text) t m (length views)
+  pub placed : AreViews buffers views
+  pub texts : AreTextsIf text (values_in buffers views)
+
+-- Why parts are refused: the first test that fails, each slot tested, those under nulls too.
+abbrev pub RefusedFor : Reason → Bool → ArrowDataType → Option Bits → List View → List (List ℕ) → Type 0
+RefusedFor ViewRange text t m views buffers =
+    MaskFits m (length views) × (physical_of (seen t) ≡ Some (view_layout text)) × (AreViews buffers views → ⊥)
+RefusedFor NotUtf8 text t m views buffers =
+    MaskFits m (length views) × (physical_of (seen t) ≡ Some (view_layout text)) × AreViews buffers views × (AreTextsIf text (values_in buffers views) → ⊥)
+RefusedFor reason text t m views buffers = flat.RefusedFor reason (view_layout text) t m (length views)
+
+-- no memory is taken, so none is wanted
+abbrev pub Refused : PolarsError → Bool → ArrowDataType → Option Bits → List View → List (List ℕ) → Type 0
+Refused (ComputeError reason) text t m views buffers = RefusedFor reason text t m views buffers
+Refused _ text t m views buffers = ⊥
+
+abbrev pub values_of : ViewArray → List (List ℕ)
+values_of a = values_in a.buffers a.views
+
+abbrev pub slots : ViewArray → List (Option (List ℕ))
+slots a = masked a.mask (values_of a)
+
+-- Bytes that are lent, as numbers in their range.
+abbrev pub lent_octets : Bor (List ℕ) → List ℕ
+lent_octets b = octets b.now
+
+abbrev pub seen_octets : Option (Bor (List ℕ)) → Option (List ℕ)
+seen_octets None = None
+seen_octets (Some b) = Some (octets b.now)
+
+-- The array of n slots from `offset` on, of the same buffers.
+abbrev pub cut : ViewArray → ℕ → ℕ → ViewArray
+cut a offset n = record { dtype = a.dtype; views = take n (drop offset a.views); buffers = a.buffers; mask = cut_mask a.mask offset n }
+
+-- The half of n slots from `offset` on, whose mask goes where it has no unset bit; the first n slots, and the others.
+abbrev pub half : ViewArray → ℕ → ℕ → ViewArray
+half a offset n = record { dtype = a.dtype; views = take n (drop offset a.views); buffers = a.buffers; mask = half_mask a.mask offset n }
+
+abbrev pub front : ViewArray → ℕ → ViewArray
+front a n = half a 0 n
+
+abbrev pub rest : ViewArray → ℕ → ViewArray
+rest a n = half a n (length a.views - n)

@@ -1,0 +1,123 @@
+//! Whether the values that views stand for are texts, and the bytes of a value.
+ghost use Rattle.std.specs.Prelude.{◌≡◌, ◌≤◌, ◌<◌, ℕ, List, true, IsUtf8, length as count, map, Decides};
+ghost use Rattle.std.specs.Str.{IsCharBoundary};
+ghost use Rattle.arrow_flat.specs.Natives.{octets};
+ghost use Rattle.arrow_flat.specs.Pieces.{AreTexts};
+ghost use Rattle.arrow_flat.specs.Views.{IsView, view_bytes, view_length};
+ghost use Rattle.arrow_views.specs.ViewArrays.{AreViews, AreTextsIf, values_in};
+
+use crate::View;
+use crate::octets::know_bytes;
+use arrow_buffers::Buffer;
+
+/// The value that a view stands for: bytes of the view itself, or of its buffer.
+pub(crate) fn value_of<'a>(view: &'a View, buffers: &'a [Buffer<u8>]) -> &'a [u8]
+    requires { IsView (map octets buffers.now) view.now }
+    ensures { octets result.now ≡ view_bytes (map octets buffers.now) view.now }
+{
+    if view.length() <= 12 {
+        held(view)
+    } else {
+        named(view, buffers)
+    }
+}
+
+/// The value that a view holds.
+fn held(view: &View) -> &[u8]
+    requires { view_length view.now ≤ 12 }
+    ensures { (buffers : List (List ℕ)) → octets result.now ≡ view_bytes buffers view.now }
+{
+    let length = view.length() as usize;
+    let value = &view.as_bytes()[4..4 + length];
+    know_bytes(value);
+    value
+}
+
+/// The value that a view names.
+fn named<'a>(view: &View, buffers: &'a [Buffer<u8>]) -> &'a [u8]
+    requires view { IsView (map octets buffers.now) view.now }
+    requires long { 12 < view_length view.now }
+    ensures { octets result.now ≡ view_bytes (map octets buffers.now) view.now }
+{
+    let bytes = buffers[view.buffer() as usize].as_slice();
+    let start = view.offset() as usize;
+    let end = start + view.length() as usize;
+    &bytes[start..end]
+}
+
+/// Whether each value is UTF-8, where the values are texts.
+pub(crate) fn are_texts_if(is_text: bool, views: &[View], buffers: &[Buffer<u8>]) -> bool
+    requires { AreViews (map octets buffers.now) views.now }
+    ensures { Decides result (AreTextsIf is_text (values_in (map octets buffers.now) views.now)) }
+{
+    !is_text || are_texts(views, buffers)
+}
+
+/// Whether each value is UTF-8. Where the buffers are, each as a whole, only the ends of long values are looked at.
+fn are_texts(views: &[View], buffers: &[Buffer<u8>]) -> bool
+    requires { AreViews (map octets buffers.now) views.now }
+    ensures { Decides result (AreTexts (values_in (map octets buffers.now) views.now)) }
+{
+    let whole = are_whole_texts(buffers);
+    for view in views {
+        if !is_text_view(view, buffers, whole) {
+            return false;
+        }
+    }
+    true
+}
+
+/// Whether each buffer is UTF-8.
+fn are_whole_texts(buffers: &[Buffer<u8>]) -> bool
+    ensures { Decides result (AreTexts (map octets buffers.now)) }
+{
+    for buffer in buffers {
+        if !is_text(buffer.as_slice()) {
+            return false;
+        }
+    }
+    true
+}
+
+/// Whether the bytes are UTF-8.
+fn is_text(bytes: &[u8]) -> bool
+    ensures { Decides result (IsUtf8 (octets bytes.now)) }
+{
+    know_bytes(bytes);
+    std::str::from_utf8(bytes).is_ok()
+}
+
+/// Whether the value of a view is UTF-8, where the buffers are, if they are known to be.
+fn is_text_view(view: &View, buffers: &[Buffer<u8>], whole: bool) -> bool
+    requires view { IsView (map octets buffers.now) view.now }
+    requires whole { whole ≡ true → AreTexts (map octets buffers.now) }
+    ensures { Decides result (IsUtf8 (view_bytes (map octets buffers.now) view.now)) }
+{
+    if whole && view.length() > 12 {
+        has_borders(view, buffers)
+    } else {
+        is_text(value_of(view, buffers))
+    }
+}
+
+/// Whether the value of a view, which stands in a text, begins and ends between characters.
+fn has_borders(view: &View, buffers: &[Buffer<u8>]) -> bool
+    requires view { IsView (map octets buffers.now) view.now }
+    requires long { 12 < view_length view.now }
+    requires whole { AreTexts (map octets buffers.now) }
+    ensures { Decides result (IsUtf8 (view_bytes (map octets buffers.now) view.now)) }
+{
+    let bytes = buffers[view.buffer() as usize].as_slice();
+    let start = view.offset() as usize;
+    let end = start + view.length() as usize;
+    is_border(bytes, start) && is_border(bytes, end)
+}
+
+/// Whether no character of a text goes on past this place.
+fn is_border(bytes: &[u8], at: usize) -> bool
+    requires { at ≤ count bytes.now }
+    ensures { Decides result (IsCharBoundary (octets bytes.now) at) }
+{
+    know_bytes(bytes);
+    at == bytes.len() || bytes[at] < 128 || bytes[at] >= 192
+}

@@ -1,0 +1,14 @@
+use Rattle.std.proofs.Common.{◌≡◌, sym, ap, subst, map}
+use Rattle.std.specs.Prelude.{IfOk}
+use Rattle.serde_json.specs.View.{view}
+use Rattle.arrow_types.specs.Seen.{seen}
+use Rattle.arrow_meaning.specs.Forms.{primitive_by}
+use Rattle.arrow_meaning.proofs.Primitives.{primitive_form}
+use Rattle.column_json.specs.Writes.{primitives_value}
+use Rattle.column_json.proofs.writer.primitive_json.Goals as goal
+
+pub returns : goal.returns
+returns g c =
+    let a = c.args.array.now in
+    let form = primitive_form (seen a.dtype) g.T.NativeType.PRIMITIVE c.dtype.ensures.sound.stored in
+    subst (λ p. IfOk c.numbers_json.result (λ v. view v ≡ primitives_value p a.mask (map g.T.NativeType.parts a.values))) (sym (ap primitive_by form)) c.numbers_json.ensures

@@ -1,0 +1,16 @@
+//! Columns as JSON values: the grammar, the writer, and the laws of the written text.
+#![tactic(auto)]
+
+pub mod laws;
+mod native;
+#[cfg(test)]
+mod tests;
+mod view_writer;
+mod writer;
+
+pub use native::JsonNative;
+pub use view_writer::view_json;
+pub use writer::{
+    binary_json, boolean_json, column_json, column_text, fixed_size_binary_json, primitive_json,
+    utf8_json,
+};

@@ -1,0 +1,218 @@
+//! Columns to JSON values and text.
+ghost use Rattle.std.specs.Prelude.{◌≡◌, [], ◌∷◌, map, pos, ◌≤ℤ◌, string_bytes, Some, IfOk};
+ghost use Rattle.serde_json.specs.View.{view};
+ghost use Rattle.hex.specs.Hex.{encode_lower};
+ghost use Rattle.arrow_buffers.specs.Bits.{Bits};
+ghost use Rattle.arrow_flat.specs.Natives.{octets};
+ghost use Rattle.arrow_flat.specs.Primitives.{seen_mask};
+ghost use Rattle.arrow_meaning.specs.Nodes.{boolean_layout, primitive_layout, binary_layout, fixed_size_binary_layout, numbers_of, layout_of};
+ghost use Rattle.column_json.specs.Values.{bit_char, bits_value, mask_value, bytes_value, integer_value, list_value, number_value};
+ghost use Rattle.column_json.specs.Writes.{primitives_value, binaries_value, data_value, column_value, column_text};
+
+use crate::native::JsonNative;
+use crate::view_writer::view_json;
+use arrow_buffers::{Bitmap, Offset, OffsetsBuffer};
+use arrow_bytes::{BinaryArray, FixedSizeBinaryArray, Utf8Array};
+use arrow_flat::{BooleanArray, PrimitiveArray};
+use arrow_json::type_json;
+use arrow_meaning::{ArrayRef, Node, PrimitiveNode};
+use arrow_types::Mem;
+use serde_json::{Value, json};
+use std::alloc::Global;
+
+/// The character of a bit.
+fn bit_text(bit: bool) -> &'static str
+    ensures { result.now ≡ bit_char bit ∷ [] }
+{
+    if bit { "1" } else { "0" }
+}
+
+/// Bits in slot order, as a text of `0` and `1`.
+fn bits_json(alloc: Global, bits: &Bitmap) -> Mem<Value>
+    ensures { IfOk result (λ v. view v ≡ bits_value bits.now) }
+{
+    let mut text = String::with_capacity(alloc, bits.len())?;
+    for bit in bits.iter() {
+        text.push_str(bit_text(bit))?;
+    }
+    Ok(Value::String(text))
+}
+
+/// The bits of a mask, null where there is none.
+pub(crate) fn mask_json(alloc: Global, mask: Option<&Bitmap>) -> Mem<Value>
+    ensures { IfOk result (λ v. view v ≡ mask_value (seen_mask mask.entry)) }
+{
+    match mask {
+        None => Ok(Value::Null),
+        Some(mask) => bits_json(alloc, mask),
+    }
+}
+
+/// Hexadecimal text in lower case, two digits a byte.
+fn bytes_text(alloc: Global, bytes: &[u8]) -> Mem<String>
+    ensures { IfOk result (λ s. string_bytes s ≡ encode_lower (octets bytes.now)) }
+{
+    hex::encode(alloc, bytes)
+}
+
+/// Bytes as hexadecimal text.
+pub(crate) fn bytes_json(alloc: Global, bytes: &[u8]) -> Mem<Value>
+    ensures { IfOk result (λ v. view v ≡ bytes_value (octets bytes.now)) }
+{
+    let text = bytes_text(alloc, bytes)?;
+    Ok(Value::String(text))
+}
+
+/// The data of an array of bits: `{"mask":M,"values":bits}`.
+pub fn boolean_json(alloc: Global, array: &BooleanArray) -> Mem<Value>
+    ensures { IfOk result (λ v. view v ≡ data_value (boolean_layout array.now)) }
+{
+    let mask = mask_json(alloc, array.validity())?;
+    let values = bits_json(alloc, array.values())?;
+    json!(in alloc; {"mask": mask, "values": values})
+}
+
+fn values_json<T: JsonNative>(alloc: Global, values: &[T]) -> Mem<Value>
+    ensures { IfOk result (λ v. view v ≡ list_value (map (number_value T.PRIMITIVE) (map T.parts values.now))) }
+{
+    let mut list = Vec::with_capacity(alloc, values.len())?;
+    for value in values {
+        list.push(T::write(alloc, *value)?)?;
+    }
+    Ok(Value::Array(list))
+}
+
+fn numbers_json<T: JsonNative>(alloc: Global, array: &PrimitiveArray<T>) -> Mem<Value>
+    ensures { IfOk result (λ v. view v ≡ primitives_value T.PRIMITIVE array.now.mask (map T.parts array.now.values)) }
+{
+    let mask = mask_json(alloc, array.validity())?;
+    let values = values_json(alloc, array.values().as_slice())?;
+    json!(in alloc; {"mask": mask, "values": values})
+}
+
+/// The data of a primitive array: `{"mask":M,"values":[v..]}`.
+pub fn primitive_json<T: JsonNative>(alloc: Global, array: &PrimitiveArray<T>) -> Mem<Value>
+    ensures { IfOk result (λ v. view v ≡ data_value (primitive_layout T.parts array.now)) }
+{
+    array.dtype();
+    numbers_json(alloc, array)
+}
+
+fn offset_json<O: Offset>(offset: O) -> Value
+    requires { pos 0 ≤ℤ O.number offset }
+    ensures { view result ≡ integer_value (O.number offset) }
+{
+    Value::from(offset.to_usize())
+}
+
+fn offsets_json<O: Offset>(alloc: Global, offsets: &OffsetsBuffer<O>) -> Mem<Value>
+    ensures { IfOk result (λ v. view v ≡ list_value (map integer_value (map O.number offsets.now))) }
+{
+    let items = offsets.as_slice();
+    let mut list = Vec::with_capacity(alloc, items.len())?;
+    for offset in items {
+        list.push(offset_json(*offset))?;
+    }
+    Ok(Value::Array(list))
+}
+
+fn pieces_json<O: Offset>(
+    alloc: Global,
+    offsets: &OffsetsBuffer<O>,
+    bytes: &[u8],
+    mask: Option<&Bitmap>,
+) -> Mem<Value>
+    ensures { IfOk result (λ v. view v ≡ binaries_value (seen_mask mask.entry) (map O.number offsets.now) (octets bytes.now)) }
+{
+    let bytes = bytes_json(alloc, bytes)?;
+    let mask = mask_json(alloc, mask)?;
+    let offsets = offsets_json(alloc, offsets)?;
+    json!(in alloc; {"bytes": bytes, "mask": mask, "offsets": offsets})
+}
+
+/// The data of byte strings: `{"bytes":hex,"mask":M,"offsets":[n..]}`, with all bytes and each offset as it stands.
+pub fn binary_json<O: Offset>(alloc: Global, array: &BinaryArray<O>) -> Mem<Value>
+    ensures { IfOk result (λ v. view v ≡ data_value (binary_layout O.number array.now)) }
+{
+    let bytes = array.values().as_slice();
+    pieces_json(alloc, array.offsets(), bytes, array.validity())
+}
+
+/// The data of texts, as that of byte strings.
+pub fn utf8_json<O: Offset>(alloc: Global, array: &Utf8Array<O>) -> Mem<Value>
+    ensures { IfOk result (λ v. view v ≡ data_value (binary_layout O.number array.now)) }
+{
+    let bytes = array.values().as_slice();
+    pieces_json(alloc, array.offsets(), bytes, array.validity())
+}
+
+/// The data of byte strings of one size: `{"bytes":hex,"mask":M}`.
+pub fn fixed_size_binary_json(alloc: Global, array: &FixedSizeBinaryArray) -> Mem<Value>
+    ensures { IfOk result (λ v. view v ≡ data_value (fixed_size_binary_layout array.now)) }
+{
+    let bytes = bytes_json(alloc, array.values().as_slice())?;
+    let mask = mask_json(alloc, array.validity())?;
+    json!(in alloc; {"bytes": bytes, "mask": mask})
+}
+
+/// The data of an array of any native type.
+fn numbers_node_json(alloc: Global, node: &PrimitiveNode) -> Mem<Value>
+    ensures { IfOk result (λ v. view v ≡ data_value (numbers_of node.now)) }
+{
+    match node {
+        PrimitiveNode::Int8(array) => primitive_json(alloc, array),
+        PrimitiveNode::Int16(array) => primitive_json(alloc, array),
+        PrimitiveNode::Int32(array) => primitive_json(alloc, array),
+        PrimitiveNode::Int64(array) => primitive_json(alloc, array),
+        PrimitiveNode::Int128(array) => primitive_json(alloc, array),
+        PrimitiveNode::UInt8(array) => primitive_json(alloc, array),
+        PrimitiveNode::UInt16(array) => primitive_json(alloc, array),
+        PrimitiveNode::UInt32(array) => primitive_json(alloc, array),
+        PrimitiveNode::UInt64(array) => primitive_json(alloc, array),
+        PrimitiveNode::DaysMs(array) => primitive_json(alloc, array),
+        PrimitiveNode::MonthDayNano(array) => primitive_json(alloc, array),
+    }
+}
+
+fn data_json(alloc: Global, array: &ArrayRef) -> Mem<Value>
+    ensures { IfOk result (λ v. view v ≡ data_value array.now) }
+{
+    let node = array.node();
+    node_json(alloc, node)
+}
+
+/// The data of an array of any kind.
+fn node_json(alloc: Global, node: &Node) -> Mem<Value>
+    ensures { IfOk result (λ v. view v ≡ data_value (layout_of node.now)) }
+{
+    match node {
+        Node::Boolean(array) => boolean_json(alloc, array),
+        Node::Primitive(numbers) => numbers_node_json(alloc, numbers),
+        Node::Binary(array) => binary_json(alloc, array),
+        Node::LargeBinary(array) => binary_json(alloc, array),
+        Node::Utf8(array) => utf8_json(alloc, array),
+        Node::LargeUtf8(array) => utf8_json(alloc, array),
+        Node::FixedSizeBinary(array) => fixed_size_binary_json(alloc, array),
+        Node::BinaryView(array) => view_json(alloc, array),
+        Node::Utf8View(array) => view_json(alloc, array),
+    }
+}
+
+/// A column as a JSON value: `{"data":D,"type":T}`.
+pub fn column_json(alloc: Global, array: &ArrayRef) -> Mem<Value>
+    ensures { IfOk result (λ v. view v ≡ column_value array.now) }
+{
+    let parts = data_json(alloc, array)?;
+    let dtype = type_json(alloc, array.dtype())?;
+    json!(in alloc; {"data": parts, "type": dtype})
+}
+
+/// The compact JSON text of a column, and a line feed.
+pub fn column_text(alloc: Global, array: &ArrayRef) -> Mem<String>
+    ensures { IfOk result (λ s. string_bytes s ≡ column_text array.now) }
+{
+    let value = column_json(alloc, array)?;
+    let mut text = value.to_string(alloc)?;
+    text.push_str("\n")?;
+    Ok(text)
+}

@@ -1,0 +1,49 @@
+-- Parts of views that are refused are not well formed.
+use Rattle.std.proofs.Common.{◌≡◌, ℕ, zero, suc, ◌<◌, List, [], ◌∷◌, length, map, get_or, ap, sym, ◌∙◌, subst, arith, Option, Some, None}
+use Rattle.std.specs.Prelude.{Bool, true, false}
+use Rattle.std.specs.List.{AllByRecursion}
+use Rattle.arrow_buffers.specs.Bits.{Bits}
+use Rattle.arrow_types.specs.Seen.{seen}
+use Rattle.arrow_types.specs.Types.{physical_of}
+use Rattle.arrow_types.specs.declared.datatype.ArrowDataType.{ArrowDataType}
+use Rattle.arrow_types.specs.declared.error.PolarsError.{PolarsError}
+use Rattle.arrow_types.specs.declared.error.PolarsError.TheVariants.{ComputeError}
+use Rattle.arrow_types.specs.declared.error.Reason.TheVariants.{MaskLength, WrongLogicalType, ViewRange, NotUtf8}
+use Rattle.arrow_flat.specs.Primitives.{MaskFits as MaskCovers}
+use Rattle.arrow_flat.specs.Pieces.{AreTexts}
+use Rattle.arrow_flat.specs.Views.{View}
+use Rattle.arrow_views.specs.ViewArrays.{view_layout, AreTextsIf, values_in, Refused}
+use Rattle.arrow_meaning.specs.Forms.{form_of, text_by}
+use Rattle.arrow_meaning.specs.Layouts.{views}
+use Rattle.arrow_meaning.specs.SlotsOf.{IsTextIf}
+use Rattle.arrow_meaning.specs.WellFormed.{MaskFits, WellFormed}
+use Rattle.arrow_meaning.proofs.FlatLayouts.{view_form}
+
+-- one that isn't spoils all
+pub some_bad : {A B : Type 0} (P : B → Type 0) (f : A → B) (xs : List A) (i : ℕ) (x : A) → i < length xs → x ≡ get_or xs i x → (P (f x) → ⊥) → AllByRecursion P (map f xs) → ⊥
+some_bad P f [] i x l e h k = omega (arith, l)
+some_bad P f (y ∷ xs) zero x l e h k = h (subst (λ z. P (f z)) (sym e) k.0)
+some_bad P f (y ∷ xs) (suc i) x l e h k = some_bad P f xs i x (omega (arith, l)) e h k.1
+
+covers : (m : Option Bits) (n : ℕ) → MaskFits m n → MaskCovers m n
+covers None n h = tt
+covers (Some b) n h = h.0
+
+texts : (text : Bool) (xs : List (List ℕ)) → AllByRecursion (IsTextIf text) xs → AreTextsIf text xs
+texts false xs h = tt
+texts true xs h = by xs h
+  where
+    by : (xs : List (List ℕ)) → AllByRecursion (IsTextIf true) xs → AreTexts xs
+    by [] h = tt
+    by (x ∷ xs) h = (h.0, by xs h.1)
+
+pub bad_views : (e : PolarsError) (text : Bool) (t : ArrowDataType) (m : Option Bits) (vs : List View) (buffers : List (List ℕ)) → physical_of (seen t) ≡ Some (view_layout text) → Refused e text t m vs buffers
+    → WellFormed (views (seen t) m vs buffers) → ⊥
+bad_views (ComputeError MaskLength) text t m vs buffers stored h w = h (covers m (length vs) w.0.mask)
+bad_views (ComputeError WrongLogicalType) text t m vs buffers stored h w = h.1 stored
+bad_views (ComputeError ViewRange) text t m vs buffers stored h w = h.2 w.1
+bad_views (ComputeError NotUtf8) text t m vs buffers stored h w =
+    let same : text_by (form_of (seen t)) ≡ text = ap text_by (view_form text (seen t) stored) in
+    h.3 (texts text (values_in buffers vs) (subst (λ x. AllByRecursion (IsTextIf x) (values_in buffers vs)) same w.3))
+bad_views (ComputeError _) text t m vs buffers stored h w = h
+bad_views _ text t m vs buffers stored h w = h

@@ -1,0 +1,11 @@
+pub mod BadParts
+pub mod BadViews
+pub mod Bytes16
+pub mod Loops
+pub mod Octets
+pub mod SpelledTypes
+pub mod StoredData
+pub mod TextForms
+pub mod Threes
+pub mod Worked
+pub mod Prefixes

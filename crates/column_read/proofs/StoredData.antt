@@ -1,0 +1,61 @@
+-- What data are read as, by the layout in which a type is stored.
+use Rattle.std.proofs.Common.{◌≡◌, ℕ, true, false, refl, ap, sym, ◌∙◌, Option, Some, None}
+use Rattle.std.specs.Prelude.{option_and_then}
+use Rattle.serde_json.specs.Data.{Data}
+use Rattle.arrow_types.specs.TypeData.{TypeData}
+use Rattle.arrow_types.specs.TypeData as T
+use Rattle.arrow_types.specs.Types.{physical_of}
+use Rattle.arrow_types.specs.declared.datatype.PhysicalType.{PhysicalType}
+use Rattle.arrow_bytes.specs.FixedSizeBinaries.{size_of}
+use Rattle.arrow_meaning.specs.Layouts.{Layout}
+use Rattle.arrow_meaning.specs.Forms.{Form, form_of, binaries_of, booleans_of, dictionaries_of, fixed_size_binaries_of, fixed_size_lists_of, lists_of, no_form, nulls_of, primitives_of, structs_of, unions_of, views_of}
+use Rattle.arrow_meaning.proofs.Physical.{physical_by, physical-by, list_kind}
+use Rattle.column_json.specs.Reads.{data_by, data_in}
+use Rattle.column_read.specs.Parts.{data_of}
+
+abbrev by_stored : TypeData → Option PhysicalType → Option ℕ → Data → Option Layout
+by_stored t stored size d = option_and_then (λ layout. data_of t layout size d) stored
+
+abbrev size_by : Form → Option ℕ
+size_by (fixed_size_binaries_of k) = Some k
+size_by _ = None
+
+size-by : (t : TypeData) → size_of t ≡ size_by (form_of t)
+size-by (T.fixed_size_binary k) = refl
+size-by (T.list (T.field n t b m)) = refl
+size-by (T.large_list (T.field n t b m)) = refl
+size-by (T.map (T.field n t b m) o) = refl
+size-by (T.fixed_size_list (T.field n t b m) k) = refl
+size-by (T.extension n t m) = size-by t
+size-by _ = refl
+
+-- no list is of another layout
+list_unread : (t u : TypeData) (size : Option ℕ) (d : Data) → data_of u (list_kind t) size d ≡ None
+list_unread (T.map f o) u size d = refl
+list_unread (T.extension n t m) u size d = list_unread t u size d
+list_unread _ u size d = refl
+
+same_by : (t : TypeData) (d : Data) (f : Form) → data_by f t d ≡ by_stored t (physical_by t f) (size_by f) d
+same_by t d nulls_of = refl
+same_by t d booleans_of = refl
+same_by t d (primitives_of p) = refl
+same_by t d (binaries_of false false) = refl
+same_by t d (binaries_of false true) = refl
+same_by t d (binaries_of true false) = refl
+same_by t d (binaries_of true true) = refl
+same_by t d (fixed_size_binaries_of k) = refl
+same_by t d (views_of false) = refl
+same_by t d (views_of true) = refl
+same_by t d (lists_of false u) = sym (list_unread t t None d)
+same_by t d (lists_of true u) = refl
+same_by t d (fixed_size_lists_of k u) = refl
+same_by t d (structs_of fs) = refl
+same_by t d (unions_of mode ids fs) = refl
+same_by t d (dictionaries_of k u) = refl
+same_by t d no_form = refl
+
+pub data_stored : (t : TypeData) (d : Data) (stored : Option PhysicalType) (size : Option ℕ) → stored ≡ physical_of t → size ≡ size_of t → data_in t d ≡ by_stored t stored size d
+data_stored t d stored size e k =
+    same_by t d (form_of t)
+    ∙ ap (λ o. by_stored t o (size_by (form_of t)) d) (sym (physical-by t) ∙ sym e)
+    ∙ ap (λ o. by_stored t stored o d) (sym (size-by t) ∙ sym k)

@@ -1,0 +1,10 @@
+use Rattle.std.proofs.Common.{◌≡◌, take, Some}
+use Rattle.std.specs.Prelude.{map}
+use Rattle.serde_json.specs.View.{view}
+use Rattle.arrow_json.specs.Values.{traverse}
+use Rattle.column_json.specs.Values.{signed_in}
+use Rattle.column_json.specs.Reads.{offset_bits}
+use Rattle.column_read.proofs.reader.offset_list.Given as goal
+
+abbrev pub invariant-loop-item : goal.invariant-loop-item
+invariant-loop-item g l = traverse (signed_in (offset_bits g.O.Offset.IS_LARGE)) (map view (take l.item-index l.list)) ≡ Some (map g.O.Offset.number l.offsets.items)

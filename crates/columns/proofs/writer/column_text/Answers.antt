@@ -1,5 +1,0 @@
-use Rattle.columns.proofs.Text.{column_text_of}
-use Rattle.columns.proofs.writer.column_text.Goals as goal
-
-pub returns : goal.returns
-returns c = column_text_of _ _ _ _ c.in_ok-value.ensures c.in_ok-text.ensures.text c.in_ok-push_str.ensures.bytes
