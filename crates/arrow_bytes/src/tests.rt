@@ -1,7 +1,9 @@
-//! What no clause says: that calls succeed with ample memory, and which test of a constructor comes first.
+//! What no clause says: that calls succeed with ample memory, which test of a constructor comes first, and the generic calls through
+//! their bounds.
 
-use crate::{BinaryArray, FixedSizeBinaryArray, Utf8Array};
+use crate::{BinaryArray, FixedSizeBinaryArray, GenericBinaryArray, Utf8Array};
 use arrow_buffers::{Bitmap, Buffer, Offset, Offsets, OffsetsBuffer};
+use arrow_flat::{Splitable, TryClone};
 use arrow_types::{ArrowDataType, Mem, PolarsError, PolarsResult, Reason};
 use std::alloc::Global;
 use std::test::Fail;
@@ -137,6 +139,123 @@ fn sizes_are_tested_before_the_mask(rt: HostRuntime) -> Result<(), Fail> {
             None => ArrowDataType::Binary,
         };
         assert_eq!(rt; reason_of(fixed(alloc, dtype, bytes, length)), wanted);
+    }
+    Ok(())
+}
+
+#[test]
+fn each_slot_is_a_text(rt: HostRuntime) -> Result<(), Fail> {
+    let alloc = rt.alloc();
+    let torn = [255, 65, 0xc3, 0xa9, 67, 68, 255];
+    let broken = [255, 65, 66, 255, 67, 68, 255];
+    let accents = [255, 0xc3, 0xa9, 65, 0xc3, 0xa9, 255];
+    let cases: [(&[u8], Option<usize>, bool, Option<Reason>); 6] = [
+        (&accents, Some(3), true, None),
+        (&torn, None, true, Some(Reason::NotUtf8)),
+        (&broken, None, true, Some(Reason::NotUtf8)),
+        (&broken, Some(3), true, Some(Reason::NotUtf8)),
+        (&broken, Some(2), true, Some(Reason::MaskLength)),
+        (&broken, Some(3), false, Some(Reason::WrongLogicalType)),
+    ];
+    for (bytes, length, is_fitting, wanted) in cases {
+        let dtype = if is_fitting {
+            ArrowDataType::Utf8
+        } else {
+            ArrowDataType::Binary
+        };
+        assert_eq!(rt;
+            reason_of(texts::<i32>(alloc, dtype, bytes, length)),
+            wanted
+        );
+    }
+    Ok(())
+}
+
+const LETTERS: &[u8] = b"-abcde-";
+
+#[test]
+fn byte_strings_come_from_both_ends(rt: HostRuntime) -> Result<(), Fail> {
+    let array = binaries::<i64>(rt.alloc(), ArrowDataType::LargeBinary, LETTERS, Some(3))?;
+    let slots = [Some(&b"de"[..]), None, Some(&b"ab"[..])];
+    assert!(rt; array.iter().rev().eq(slots.iter().copied()));
+    let values = [&b"ab"[..], &b"c"[..], &b"de"[..]];
+    assert!(rt; array.values_iter().eq(values.iter().copied()));
+    Ok(())
+}
+
+#[test]
+fn texts_come_from_both_ends(rt: HostRuntime) -> Result<(), Fail> {
+    let array = texts::<i32>(rt.alloc(), ArrowDataType::Utf8, LETTERS, Some(3))?;
+    let slots = [Some("ab"), None, Some("de")];
+    assert!(rt; array.iter().eq(slots.iter().copied()));
+    assert!(rt;
+        array
+            .values_iter()
+            .rev()
+            .eq(["de", "c", "ab"].iter().copied())
+    );
+    Ok(())
+}
+
+/// The halves of a copy, through the bounds; None past its end.
+fn halves<T: Splitable + TryClone + Drop>(
+    alloc: Global,
+    value: &T,
+    offset: usize,
+) -> Mem<Option<(T, T)>> {
+    let copy = value.try_clone(alloc)?;
+    if !copy.check_bound(offset) {
+        return Ok(None);
+    }
+    Ok(Some(copy.split_at(alloc, offset)?))
+}
+
+/// The counts of offsets and of bytes, through the bound.
+fn counts<O: Offset, A: GenericBinaryArray<O>>(array: &A) -> (usize, usize) {
+    (array.offsets().len(), array.values().len())
+}
+
+#[test]
+fn byte_strings_go_through_the_bounds(rt: HostRuntime) -> Result<(), Fail> {
+    let array = binaries::<i32>(rt.alloc(), ArrowDataType::Binary, LETTERS, Some(3))?;
+    assert!(rt; counts::<i32, BinaryArray<i32>>(&array) == (4, 7));
+    if let Some((front, rest)) = halves(rt.alloc(), &array, 2)? {
+        assert!(rt; front.null_count() == 1 && rest.validity().is_none());
+        assert!(rt; front.len() == 2 && rest.len() == 1);
+    }
+    Ok(())
+}
+
+#[test]
+fn texts_go_through_the_bounds(rt: HostRuntime) -> Result<(), Fail> {
+    let array = texts::<i64>(rt.alloc(), ArrowDataType::LargeUtf8, LETTERS, Some(3))?;
+    assert!(rt; counts::<i64, Utf8Array<i64>>(&array) == (4, 7));
+    if let Some((front, rest)) = halves(rt.alloc(), &array, 1)? {
+        assert!(rt; front.validity().is_none() && rest.null_count() == 1);
+        assert!(rt; front.len() == 1 && rest.len() == 2);
+    }
+    Ok(())
+}
+
+/// Three values of two bytes, the second a null.
+fn pairs(alloc: Global) -> PolarsResult<FixedSizeBinaryArray> {
+    fixed(alloc, ArrowDataType::FixedSizeBinary(2), b"abcdef", Some(3))
+}
+
+#[test]
+fn values_of_one_size_come_from_both_ends(rt: HostRuntime) -> Result<(), Fail> {
+    let array = pairs(rt.alloc())?;
+    let slots = [Some(&b"ef"[..]), None, Some(&b"ab"[..])];
+    assert!(rt; array.iter().rev().eq(slots.iter().copied()));
+    Ok(())
+}
+
+#[test]
+fn values_of_one_size_go_through_the_bounds(rt: HostRuntime) -> Result<(), Fail> {
+    let array = pairs(rt.alloc())?;
+    if let Some((front, rest)) = halves(rt.alloc(), &array, 1)? {
+        assert!(rt; front.validity().is_none() && rest.null_count() == 1);
+        assert!(rt; front.len() == 1 && rest.len() == 2);
     }
     Ok(())
 }

@@ -1,8 +1,8 @@
 -- What a JSON value is read as: lists item by item, objects of named members, texts, flags and numbers.
-use Rattle.std.specs.Prelude.{ℕ, ◌^◌, List, [], ◌∷◌, Bool, false, ◌&&◌, ◌==◌, ℤ, pos, negsuc, int_le, nat_lt, if◌then◌else◌, Option, Some, None, unwrap_or, option_map, option_and_then, bytes_eq}
+use Rattle.std.specs.Prelude.{ℕ, ◌^◌, List, [], ◌∷◌, ◌&&◌, ◌==◌, ℤ, pos, negsuc, int_le, nat_lt, if◌then◌else◌, Option, Some, None, unwrap_or, option_map, option_and_then}
 use Rattle.std.specs.Option.{option_zip}
 use Rattle.serde_json.specs.Data.{Data, null, boolean, number, string, array, object, Items, no_items, item}
-use Rattle.serde_json.specs.Find.{as_i64, as_u64, as_number, as_str, as_object, get}
+use Rattle.serde_json.specs.Find.{as_i64, as_u64, as_number, as_object, get}
 use Rattle.serde_json.specs.Events.{members_len}
 
 -- what f gives of each, where it gives something of all
@@ -22,9 +22,6 @@ two_members k l d = if unwrap_or (option_map members_len (as_object d)) 0 == 2 t
 abbrev pub three_members : List ℕ → List ℕ → List ℕ → Data → Option (Data × (Data × Data))
 three_members k l m d =
     if unwrap_or (option_map members_len (as_object d)) 0 == 3 then option_zip (get k d) (option_zip (get l d) (get m d)) else None
-
-abbrev pub is_text : List ℕ → Data → Bool
-is_text text d = unwrap_or (option_map (λ s. bytes_eq s text) (as_str d)) false
 
 -- null, or a text
 abbrev pub text_or_null : Data → Option (Option (List ℕ))

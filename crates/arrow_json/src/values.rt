@@ -1,19 +1,9 @@
-//! What JSON values are: texts, flags and numbers.
+//! What JSON values are: numbers.
 ghost use Rattle.std.specs.Prelude.{◌≡◌};
 ghost use Rattle.serde_json.specs.View.{view};
-ghost use Rattle.arrow_json.specs.Values.{is_text, whole_in, int32_in};
+ghost use Rattle.arrow_json.specs.Values.{whole_in, int32_in};
 
 use serde_json::Value;
-
-/// Whether the value is this text.
-pub fn is_text(value: &Value, text: &str) -> bool
-    ensures { result ≡ is_text text.now (view value.now) }
-{
-    match value.as_str() {
-        Some(found) => found == text,
-        None => false,
-    }
-}
 
 /// The number from 0 to 18446744073709551615 that a value is.
 #[tactic(auto, unfolding(crate::specs::Values::whole_in))]

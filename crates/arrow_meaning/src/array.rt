@@ -14,7 +14,7 @@ ghost use Rattle.arrow_meaning.specs.Nodes.{IsBooleans, Holds, HoldsBytes, Holds
 use crate::{Node, NodeNative, NodeOffset, NodeView};
 use arrow_buffers::Bitmap;
 use arrow_bytes::{BinaryArray, FixedSizeBinaryArray, Utf8Array};
-use arrow_flat::{BooleanArray, PrimitiveArray};
+use arrow_flat::{BooleanArray, PrimitiveArray, TryClone};
 use arrow_types::{ArrowDataType, Mem, PolarsResult};
 use arrow_views::BinaryViewArrayGeneric;
 use std::alloc::Global;
@@ -234,5 +234,11 @@ impl ArrayRef {
         ensures { IfOk result (λ a. a ≡ self.now) }
     {
         self.try_clone(alloc)
+    }
+}
+
+impl TryClone for ArrayRef {
+    fn try_clone(&self, alloc: Global) -> Mem<ArrayRef> {
+        ArrayRef::try_clone(self, alloc)
     }
 }

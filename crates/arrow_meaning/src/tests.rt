@@ -2,8 +2,8 @@
 use crate::{ArrayRef, Node, NodeNative, NodeOffset, PrimitiveNode};
 use arrow_buffers::{Bitmap, Buffer, Offsets};
 use arrow_bytes::{BinaryArray, Utf8Array};
-use arrow_flat::{BooleanArray, PrimitiveArray};
-use arrow_types::ArrowDataType;
+use arrow_flat::{BooleanArray, PrimitiveArray, TryClone};
+use arrow_types::{ArrowDataType, Mem};
 use std::alloc::Global;
 use std::test::Fail;
 
@@ -31,11 +31,15 @@ fn has_texts<O: NodeOffset>(array: &ArrayRef) -> bool {
     array.as_utf8::<O>().is_some() && array.as_binary::<O>().is_none()
 }
 
+fn shared_copy<T: TryClone>(alloc: Global, value: &T) -> Mem<T> {
+    value.try_clone(alloc)
+}
+
 #[test]
 fn an_array_is_made_and_shared(rt: HostRuntime) -> Result<(), Fail> {
     let alloc = rt.alloc();
     let array = numbers(alloc)?;
-    let shared = array.try_clone(alloc)?;
+    let shared = shared_copy(alloc, &array)?;
     assert_eq!(rt; shared.len(), 3);
     let numbers = shared.as_primitive::<i32>().ok_or("another layout")?;
     let slots: Vec<Option<i32>> = numbers.iter().rev().collect(alloc)?;

@@ -3,7 +3,8 @@ use crate::{
     BinaryViewArray, BinaryViewArrayGeneric, Utf8ViewArray, View, ViewBytes, ViewStr, ViewType,
 };
 use arrow_buffers::{Bitmap, Buffer};
-use arrow_types::{ArrowDataType, Mem, PolarsError, Reason};
+use arrow_flat::{Splitable, TryClone};
+use arrow_types::{ArrowDataType, Mem, PolarsError, PolarsResult, Reason};
 use std::alloc::Global;
 use std::test::Fail;
 
@@ -214,5 +215,43 @@ fn byte_strings_are_read(rt: HostRuntime) -> Result<(), Fail> {
     assert!(rt; turned.as_slice() == [Some(TEXT), Some(b"".as_slice()), None].as_slice());
     let values: Vec<&[u8]> = bytes.values_iter().collect(alloc)?;
     assert!(rt; values.as_slice() == [b"a".as_slice(), b"", TEXT].as_slice());
+    Ok(())
+}
+
+/// A copy, through the bound.
+fn copy_of<T: TryClone>(alloc: Global, value: &T) -> Mem<T> {
+    value.try_clone(alloc)
+}
+
+/// The halves of an array, through the bound; None past its end.
+fn halves<T: Splitable + Drop>(alloc: Global, value: &T, offset: usize) -> Mem<Option<(T, T)>> {
+    if !value.check_bound(offset) {
+        return Ok(None);
+    }
+    Ok(Some(value.split_at(alloc, offset)?))
+}
+
+/// An array of three views, under this mask.
+fn byte_strings(alloc: Global, bits: &[bool]) -> PolarsResult<BinaryViewArray> {
+    let buffers = vec![in alloc; buffer(alloc, TEXT)?]?;
+    let mask = Bitmap::from_bools(alloc, bits)?;
+    BinaryViewArray::try_new(
+        ArrowDataType::BinaryView,
+        views(alloc)?,
+        buffers,
+        Some(mask),
+    )
+}
+
+#[test]
+fn views_go_through_the_bounds(rt: HostRuntime) -> Result<(), Fail> {
+    let alloc = rt.alloc();
+    let array = byte_strings(alloc, &[true, false, true])?;
+    let array = copy_of(alloc, &array)?;
+    assert!(rt; halves(alloc, &array, 4)?.is_none());
+    if let Some((front, rest)) = halves(alloc, &array, 1)? {
+        assert!(rt; front.len() == 1 && front.validity().is_none());
+        assert!(rt; rest.len() == 2 && rest.null_count() == 1);
+    }
     Ok(())
 }

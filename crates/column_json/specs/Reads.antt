@@ -1,5 +1,5 @@
 -- A column from a JSON value: `{"data":D,"type":T}`, with `"slice":[o,n]` beside them or not.
-use Rattle.std.specs.Prelude.{ℕ, ◌+◌, ◌/◌, ◌≤◌, List, [], take, drop, replicate, get_or, length, Bool, ◌&&◌, nat_le, nat_lt, ℤ, cond, if◌then◌else◌, Option, Some, None, is_some, option_map, option_and_then, codes, ⊤}
+use Rattle.std.specs.Prelude.{ℕ, ◌+◌, ◌/◌, List, [], take, drop, replicate, get_or, length, Bool, ◌&&◌, nat_le, nat_lt, ℤ, cond, if◌then◌else◌, Option, Some, None, is_some, option_map, option_and_then, codes}
 use Rattle.std.specs.Option.{option_zip}
 use Rattle.serde_json.specs.Data.{Data}
 use Rattle.serde_json.specs.Find.{as_str}
@@ -10,10 +10,8 @@ use Rattle.arrow_types.specs.declared.datatype.PrimitiveType.{PrimitiveType}
 use Rattle.arrow_flat.specs.Views.{View, inline_view, long}
 use Rattle.arrow_json.specs.TypeJson.{type_in}
 use Rattle.arrow_json.specs.Values.{two_members, three_members, whole_in}
-use Rattle.arrow_meaning.specs.Cut.{cut}
 use Rattle.arrow_meaning.specs.Forms.{Form, booleans_of, primitives_of, binaries_of, fixed_size_binaries_of, views_of, form_of}
-use Rattle.arrow_meaning.specs.Layouts.{Layout, booleans, primitives, binaries, fixed_size_binaries, views, length_of}
-use Rattle.arrow_meaning.specs.WellFormed.{WellFormed}
+use Rattle.arrow_meaning.specs.Layouts.{Layout, booleans, primitives, binaries, fixed_size_binaries, views}
 use Rattle.column_json.specs.Values.{bits_in, mask_in, bytes_in, signed_in, unsigned_in, number_in, triple_of, pair_of, items_in, list_in}
 
 -- ---- the data of each kind of layout
@@ -124,18 +122,3 @@ with_slice d = option_and_then sliced_from (three_members (codes "data") (codes 
 -- the column that a value is, where it is in the grammar
 unfoldable pub column_of : Data → Option Column
 column_of d = cond (is_some (two_members (codes "data") (codes "type") d)) (without_slice d) (with_slice d)
-
--- the layout of the slots that the column takes
-abbrev pub taken : Layout → Option (ℕ × ℕ) → Layout
-taken l None = l
-taken l (Some s) = cut l s.0 s.1
-
--- the slice ends within the layout
-abbrev pub IsWithin : Layout → Option (ℕ × ℕ) → Type 0
-IsWithin l None = ⊤
-IsWithin l (Some s) = s.0 + s.1 ≤ length_of l
-
--- what a column of a job asks for
-pub record IsSound (c : Column) : Type 0 where
-  pub well_formed : WellFormed c.layout
-  pub within : IsWithin c.layout c.slice

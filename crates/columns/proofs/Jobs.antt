@@ -7,8 +7,8 @@ use Rattle.arrow_types.specs.Depth.{depth_of}
 use Rattle.arrow_meaning.specs.Fits.{Fits}
 use Rattle.serde_json.specs.Data.{Data}
 use Rattle.arrow_canon.specs.Canonical.{canonical_of}
-use Rattle.column_json.specs.Reads.{Column, column_of, taken, IsSound}
-use Rattle.columns.specs.Job.{deepest, IsRead, IsColumn, IsJob, Verdict, too_long, bad_text, bad_job, too_deep, bad_layout, overflows, a_job, IsOf, canon_text}
+use Rattle.column_json.specs.Reads.{Column, column_of}
+use Rattle.columns.specs.Job.{deepest, IsRead, IsColumn, IsJob, taken, IsSound, Verdict, too_long, bad_text, bad_job, too_deep, bad_layout, overflows, a_job, IsOf, canon_text}
 
 -- what was taken up to the end is all that there was
 all_taken : (left bytes rest : List ℕ) → left ≡ bytes ++ rest → rest ≡ [] → left ≡ bytes

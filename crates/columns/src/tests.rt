@@ -216,14 +216,39 @@ fn each_flat_layout_has_its_outcome(rt: HostRuntime) -> Result<(), Fail> {
             "",
         ),
         (
+            "{\"data\":{\"bytes\":\"61\",\"mask\":null,\"offsets\":[]},\"type\":\"binary\"}",
+            Outcome::BadLayout(0),
+            "",
+        ),
+        (
+            "{\"data\":{\"bytes\":\"61\",\"mask\":null,\"offsets\":[-1,1]},\"type\":\"binary\"}",
+            Outcome::BadLayout(0),
+            "",
+        ),
+        (
             "{\"data\":{\"bytes\":\"61\",\"mask\":\"11\",\"offsets\":[0,1]},\"type\":\"large_binary\"}",
             Outcome::BadLayout(0),
             "",
         ),
         (
+            "{\"data\":{\"bytes\":\"616263\",\"mask\":\"1\",\"offsets\":[1,3]},\"type\":\"large_binary\"}",
+            Outcome::Done,
+            "{\"data\":{\"bytes\":\"6263\",\"mask\":null,\"offsets\":[0,2]},\"type\":\"large_binary\"}\n",
+        ),
+        (
             "{\"data\":{\"bytes\":\"c3a4\",\"mask\":null,\"offsets\":[0,0,2]},\"type\":\"large_utf8\"}",
             Outcome::Done,
             "{\"data\":{\"bytes\":\"c3a4\",\"mask\":null,\"offsets\":[0,0,2]},\"type\":\"large_utf8\"}\n",
+        ),
+        (
+            "{\"data\":{\"bytes\":\"c3\",\"mask\":null,\"offsets\":[0,1]},\"type\":\"large_utf8\"}",
+            Outcome::BadLayout(0),
+            "",
+        ),
+        (
+            "{\"data\":{\"bytes\":\"c3a478\",\"mask\":null,\"offsets\":[0,2]},\"type\":\"utf8\"}",
+            Outcome::Done,
+            "{\"data\":{\"bytes\":\"c3a4\",\"mask\":null,\"offsets\":[0,2]},\"type\":\"utf8\"}\n",
         ),
         (
             "{\"data\":{\"bytes\":\"ff\",\"mask\":null,\"offsets\":[0,1]},\"type\":\"utf8\"}",
@@ -239,6 +264,11 @@ fn each_flat_layout_has_its_outcome(rt: HostRuntime) -> Result<(), Fail> {
             "{\"data\":{\"bytes\":\"01020304\",\"mask\":\"01\"},\"type\":[\"fixed_size_binary\",2]}",
             Outcome::Done,
             "{\"data\":{\"bytes\":\"00000304\",\"mask\":\"01\"},\"type\":[\"fixed_size_binary\",2]}\n",
+        ),
+        (
+            "{\"data\":{\"bytes\":\"0102\",\"mask\":\"11\"},\"type\":[\"fixed_size_binary\",2]}",
+            Outcome::BadLayout(0),
+            "",
         ),
         (
             "{\"data\":{\"bytes\":\"010203\",\"mask\":null},\"type\":[\"fixed_size_binary\",2]}",
@@ -262,6 +292,11 @@ fn each_flat_layout_has_its_outcome(rt: HostRuntime) -> Result<(), Fail> {
         ),
         (
             "{\"data\":{\"buffers\":[\"00112233445566778899aabbcc\"],\"mask\":null,\"views\":[[13,0,1]]},\"type\":\"binary_view\"}",
+            Outcome::BadLayout(0),
+            "",
+        ),
+        (
+            "{\"data\":{\"buffers\":[],\"mask\":\"11\",\"views\":[\"ff\"]},\"type\":\"binary_view\"}",
             Outcome::BadLayout(0),
             "",
         ),

@@ -1,0 +1,170 @@
+//! The builder of values of one width.
+ghost use Rattle.std.specs.Prelude.{◌≡◌, length as count, Some};
+ghost use Rattle.std.specs.Coded.{codes};
+ghost use Rattle.std.proofs.Props.{props};
+ghost use Rattle.arrow_types.specs.Seen.{seen as type_of};
+ghost use Rattle.arrow_types.specs.Types.{physical_of, primitive_type};
+ghost use Rattle.arrow_types.specs.declared.datatype.PhysicalType.TheVariants as physical;
+ghost use Rattle.arrow_types.specs.contracts.datatype.PhysicalType as physical_type;
+ghost use Rattle.arrow_flat.specs.Natives.{IsNative};
+ghost use Rattle.arrow_flat.specs.Primitives.{MaskFits};
+
+use crate::{FreshValues, MaskedBuilder, SolidValues, TryPush, ValuesBuilder, ValuesLaws};
+use arrow_buffers::{Bitmap, Buffer};
+use arrow_flat::{Building, NativeType, PrimitiveArray};
+use arrow_types::{ArrowDataType, Mem, PolarsResult, PrimitiveType};
+use std::alloc::Global;
+
+/// A builder of values of one width, without nulls.
+#[derive(Drop)]
+pub struct PrimitiveValues<T: NativeType> {
+    dtype: ArrowDataType,
+    values: Vec<T>,
+    ghost stored: { physical_of (type_of dtype) ≡ Some (physical.Primitive T.PRIMITIVE) } by { Prim.hlevel (props, codes, physical_type.the_row.coded) },
+}
+
+/// A builder of values of one width and nulls.
+pub type MutablePrimitiveArray<T> = MaskedBuilder<PrimitiveValues<T>>;
+
+impl<T: NativeType> Building for PrimitiveValues<T> {
+    ghost use Rattle.std.specs.Prelude.{refl};
+    ghost use Rattle.arrow_types.specs.Seen.{seen as type_of};
+    ghost use Rattle.arrow_push.specs.Flat.{built_of, number};
+
+    ghost seen = { λ b. built_of (number T.parts) (type_of b.dtype) b.values.items };
+
+    ghost starts = { λ b. record { none_refused = refl; none_lands = refl } };
+}
+
+impl<T: NativeType> ValuesLaws for PrimitiveValues<T> {
+    ghost use Rattle.std.specs.Prelude.{refl};
+    ghost use Rattle.arrow_flat.specs.Numbers.{zeros};
+    ghost use Rattle.arrow_flat.specs.Slots.{num};
+
+    ghost blank = { λ t. num (zeros T.PRIMITIVE) };
+
+    ghost whole = { λ b. refl };
+
+    ghost plain = { λ b ys. refl };
+}
+
+impl<T: NativeType> ValuesBuilder for PrimitiveValues<T> {
+    ghost use Rattle.std.specs.Prelude.{map};
+    ghost use Rattle.arrow_types.specs.Seen.{seen as type_of};
+    ghost use Rattle.arrow_flat.specs.Primitives.{slots};
+    ghost use Rattle.arrow_push.specs.Flat.{number};
+    ghost use Rattle.arrow_push.specs.Items.{slot_or_null};
+
+    type Array = PrimitiveArray<T>;
+
+    ghost finished = { λ a. record { dtype = type_of a.dtype; slots = map (slot_or_null (number T.parts)) (slots a) } };
+
+    fn dtype(&self) -> &ArrowDataType {
+        &self.dtype
+    }
+
+    fn len(&self) -> usize {
+        self.values.len()
+    }
+
+    fn allocator(&self) -> Global {
+        *self.values.allocator()
+    }
+
+    fn push_blank(&mut self) -> Mem<()> {
+        self.values.push(T::zero())?;
+        Ok(())
+    }
+
+    fn extend_values(&mut self, other: &PrimitiveValues<T>) -> PolarsResult<()> {
+        self.values.extend_from_slice(other.values.as_slice())?;
+        Ok(())
+    }
+
+    fn truncate(&mut self, len: usize) {
+        self.values.truncate(len);
+    }
+
+    fn reserve(&mut self, additional: usize) -> Mem<()> {
+        self.values.reserve(additional)
+    }
+
+    fn shrink_to_fit(&mut self) -> Mem<()> {
+        self.values.shrink_to_fit();
+        Ok(())
+    }
+
+    fn finish_under(&mut self, validity: Option<Bitmap>) -> Mem<PrimitiveArray<T>> {
+        let alloc = *self.values.allocator();
+        let values = std::mem::replace(&mut self.values, Vec::new(alloc));
+        let dtype = self.dtype.try_clone(alloc)?;
+        let values = Buffer::from_vec(alloc, values)?;
+        Ok(fitted(dtype, values, validity))
+    }
+}
+
+impl<T: NativeType> FreshValues for PrimitiveValues<T> {
+    ghost use Rattle.arrow_push.specs.Flat.{plain_type_of};
+
+    ghost plain_type = { plain_type_of T.PRIMITIVE };
+
+    fn fresh(alloc: Global) -> Mem<PrimitiveValues<T>> {
+        Ok(PrimitiveValues {
+            dtype: plain_type(T::PRIMITIVE),
+            values: Vec::new(alloc),
+        })
+    }
+}
+
+impl<T: NativeType> TryPush<T> for PrimitiveValues<T> {
+    ghost use Rattle.std.specs.Prelude.{◌≡◌, ⊤};
+    ghost use Rattle.arrow_push.specs.Flat.{number};
+
+    ghost can_take = { λ x. ⊤ };
+
+    ghost stands_for = { λ x y. y ≡ number T.parts x };
+
+    ghost begins = { λ x y. y ≡ number T.parts x };
+
+    fn try_push(&mut self, item: T) -> PolarsResult<()> {
+        self.values.push(item)?;
+        Ok(())
+    }
+}
+
+impl<T: NativeType> SolidValues<T> for PrimitiveValues<T> {
+    ghost use Rattle.std.proofs.Common.{ap};
+    ghost use Rattle.arrow_flat.specs.Slots.{is_valid};
+
+    ghost solid = { λ x y e. ap is_valid e };
+
+    ghost solid_begun = { λ x y e. ap is_valid e };
+}
+
+/// The type of values of one width, with no meaning beside their numbers.
+fn plain_type(primitive: PrimitiveType) -> ArrowDataType
+    requires { IsNative primitive }
+    ensures plain { Some (type_of result) ≡ primitive_type primitive }
+    ensures stored { physical_of (type_of result) ≡ Some (physical.Primitive primitive) }
+{
+    match ArrowDataType::from_primitive(primitive) {
+        Some(dtype) => dtype,
+        None => unreachable!(),
+    }
+}
+
+/// The array of parts whose mask fits.
+fn fitted<T: NativeType>(
+    dtype: ArrowDataType,
+    values: Buffer<T>,
+    validity: Option<Bitmap>,
+) -> PrimitiveArray<T>
+    requires fits { MaskFits validity (count values) }
+    requires stored { physical_of (type_of dtype) ≡ Some (physical.Primitive T.PRIMITIVE) }
+    ensures { result ≡ record { dtype = dtype; values = values; mask = validity } }
+{
+    match PrimitiveArray::try_new(dtype, values, validity) {
+        Ok(array) => array,
+        Err(_) => unreachable!(),
+    }
+}

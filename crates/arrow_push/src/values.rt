@@ -1,0 +1,91 @@
+//! Builders of values without nulls, over which a mask may stand.
+ghost use Rattle.std.specs.Prelude.{◌≡◌, ◌≤◌, [], ◌∷◌, true, List, length, take, MatchResult, IfOk, OnOk, IsTrue};
+ghost use Rattle.arrow_buffers.specs.Bits.{Bits};
+ghost use Rattle.arrow_types.specs.TypeData.{TypeData};
+ghost use Rattle.arrow_types.specs.Seen.{seen};
+ghost use Rattle.arrow_flat.specs.Slots.{Slot, is_valid};
+ghost use Rattle.arrow_flat.specs.Built.{Takes, Keeps, ExtendsFrom};
+ghost use Rattle.arrow_flat.specs.Primitives.{MaskFits};
+ghost use Rattle.arrow_push.specs.Masks.{with_nulls, bits_in, Finished};
+
+use crate::TryPush;
+use arrow_buffers::Bitmap;
+use arrow_flat::Building;
+use arrow_types::{ArrowDataType, Mem, PolarsResult};
+use std::alloc::Global;
+
+/// What all builders of values keep: values stand as they were pushed, and some value stands for a null's place.
+pub trait ValuesLaws: Building {
+    ghost blank: { TypeData → Slot };
+
+    ghost whole: { (b : Self) → IsTrue (Self.seen b).whole };
+
+    ghost plain: { (b : Self) (ys : List Slot) → (Self.seen b).landing ys ≡ ys };
+}
+
+/// No value stands for a null.
+pub trait SolidValues<A>: TryPush<A> {
+    ghost solid: { (x : A) (y : Slot) → Self.TryPush.stands_for x y → is_valid y ≡ true };
+
+    ghost solid_begun: { (x : A) (y : Slot) → Self.TryPush.begins x y → is_valid y ≡ true };
+}
+
+/// A builder of values without nulls.
+pub trait ValuesBuilder: ValuesLaws {
+    /// The array of such values.
+    type Array: Drop;
+
+    ghost finished: { Self.Array → Finished };
+
+    /// The type of the array.
+    fn dtype(&self) -> &ArrowDataType
+        ensures { seen result.now ≡ (Self.seen self.now).dtype };
+
+    /// The count of values.
+    fn len(&self) -> usize
+        ensures { result ≡ length (Self.seen self.now).slots };
+
+    /// The memory that the builder was given.
+    fn allocator(&self) -> Global;
+
+    /// Appends the value that stands in a null's place.
+    fn push_blank(&mut self) -> Mem<()>
+        ensures { MatchResult result
+            (λ _. Takes (Self.seen self.old) (Self.seen self.new) (Self.blank (Self.seen self.old).dtype ∷ []))
+            (λ _. Keeps (Self.seen self.old) (Self.seen self.new)) };
+
+    /// Appends the values of a builder of the same type, or none of them.
+    fn extend_values(&mut self, other: &Self) -> PolarsResult<()>
+        requires { (Self.seen other.now).dtype ≡ (Self.seen self.old).dtype }
+        ensures { ExtendsFrom ((Self.seen self.old).refusal (Self.seen other.now).slots) (Unit {0}) (Self.seen self.old) (Self.seen self.new) (Self.seen other.now).slots result };
+
+    /// Keeps the first `len` values. Takes no memory.
+    fn truncate(&mut self, len: usize)
+        requires { len ≤ length (Self.seen self.old).slots }
+        ensures slots { (Self.seen self.new).slots ≡ take len (Self.seen self.old).slots }
+        ensures kind { (Self.seen self.new).dtype ≡ (Self.seen self.old).dtype };
+
+    /// Makes room for `additional` values more.
+    fn reserve(&mut self, additional: usize) -> Mem<()>
+        ensures { Self.seen self.new ≡ Self.seen self.old };
+
+    /// Gives room that no value needs back.
+    fn shrink_to_fit(&mut self) -> Mem<()>
+        ensures { Self.seen self.new ≡ Self.seen self.old };
+
+    /// The array of the values under a mask. The builder is left empty.
+    fn finish_under(&mut self, validity: Option<Bitmap>) -> Mem<Self::Array>
+        requires { MaskFits validity (length (Self.seen self.old).slots) }
+        ensures value { IfOk result (λ a. finished a ≡ record { dtype = (Self.seen self.old).dtype; slots = with_nulls (bits_in validity) (Self.seen self.old).slots }) }
+        ensures empty { (Self.seen self.new).slots ≡ [] }
+        ensures kind { (Self.seen self.new).dtype ≡ (Self.seen self.old).dtype };
+}
+
+/// A builder of values of one plain type, which is made from nothing.
+pub trait FreshValues: ValuesBuilder {
+    ghost plain_type: { TypeData };
+
+    /// No values yet.
+    fn fresh(alloc: Global) -> Mem<Self>
+        ensures { IfOk result (λ b. ((Self.seen b).slots ≡ []) × ((Self.seen b).dtype ≡ plain_type)) };
+}

@@ -1,0 +1,3 @@
+pub mod BuiltBytes
+pub mod SizedBytes
+pub mod Strings

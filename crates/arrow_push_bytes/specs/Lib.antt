@@ -1,0 +1,4 @@
+pub mod BuiltBytes
+pub mod SizedBytes
+pub mod Strings
+pub mod TextParts

@@ -1,0 +1,218 @@
+//! Byte strings that grow, one behind another.
+ghost use Rattle.std.specs.Prelude.{◌≡◌, ℕ, ◌⊎◌, ◌+◌, ◌-◌, ◌<◌, ◌≤◌, pos, length as count, [], ◌∷◌, ◌++◌, map, take, drop, slice_get, Some, OnOk, IfOk, IfErr, MatchResult};
+ghost use Rattle.arrow_buffers.specs.Offsets.{AreOffsets, to_nat, end_of, IsGrowthRefusal};
+ghost use Rattle.arrow_types.specs.declared.error.PolarsError.TheVariants.{ComputeError, OutOfMemory};
+ghost use Rattle.arrow_types.specs.declared.error.Reason.TheVariants.{LengthOverflow};
+ghost use Rattle.arrow_flat.specs.Pieces.{pieces};
+ghost use Rattle.arrow_push_bytes.specs.Strings.{AreStrings, total_of};
+
+use arrow_buffers::{Buffer, Offset, OffsetError, Offsets, OffsetsBuffer};
+use arrow_types::{Mem, PolarsError, PolarsResult, Reason};
+use std::alloc::Global;
+use std::marker::Model;
+
+/// Byte strings that grow at their end, seen as their list: offsets, and the bytes of all strings one behind another.
+#[derive(Drop)]
+pub struct ByteStrings<O: Offset> {
+    offsets: Offsets<O>,
+    bytes: Vec<u8>,
+}
+
+impl<O: Offset> Model for ByteStrings<O> {
+    ghost use Rattle.std.specs.Prelude.{ℕ, List, map};
+    ghost use Rattle.arrow_buffers.specs.Offsets.{to_nat};
+    ghost use Rattle.arrow_flat.specs.Pieces.{pieces};
+    ghost use Rattle.arrow_push_bytes.specs.Strings.{AreStrings};
+
+    ghost Value = { List (List ℕ) };
+
+    ghost view = { λ b. pieces (map to_nat (map O.number b.offsets)) b.bytes.items };
+
+    ghost invariant = { λ b. AreStrings (map O.number b.offsets) b.bytes.items (pieces (map to_nat (map O.number b.offsets)) b.bytes.items) };
+}
+
+impl<O: Offset> ByteStrings<O> {
+    /// No strings, to grow in the given memory.
+    pub fn new(alloc: Global) -> Mem<ByteStrings<O>>
+        ensures { IfOk result (λ b. b ≡ []) }
+    {
+        Ok(ByteStrings {
+            offsets: Offsets::new(alloc)?,
+            bytes: Vec::new(alloc),
+        })
+    }
+
+    /// The count of strings.
+    pub fn len(&self) -> usize
+        ensures { result ≡ count self.now }
+    {
+        self.offsets.len_proxy()
+    }
+
+    /// How many bytes the strings have together.
+    pub fn total(&self) -> usize
+        ensures value { result ≡ total_of self.now }
+        ensures fits { total_of self.now < O.limit }
+    {
+        self.offsets.last().to_usize()
+    }
+
+    /// The string at a place.
+    pub fn value(&self, i: usize) -> &[u8]
+        requires { i < count self.now }
+        ensures { slice_get self.now i ≡ Some result.now }
+    {
+        let (start, end) = bounds_at(self.offsets.as_slice(), i);
+        between(self.bytes.as_slice(), start, end)
+    }
+
+    /// The memory that the strings grow in.
+    pub fn allocator(&self) -> Global {
+        *self.bytes.allocator()
+    }
+
+    /// Appends a string. Refused as ComputeError LengthOverflow where the bytes together pass the greatest offset. A refused call
+    /// leaves the strings as they were.
+    pub fn try_push(&mut self, value: &[u8]) -> PolarsResult<()>
+        ensures { MatchResult result
+            (λ _. (self.new ≡ self.old ++ value.now ∷ []) × (total_of self.old + count value.now < O.limit))
+            (λ e. (self.new ≡ self.old) × ((e ≡ OutOfMemory) ⊎ ((e ≡ ComputeError LengthOverflow) × (O.limit ≤ total_of self.old + count value.now)))) }
+    {
+        let before = self.offsets.len_proxy();
+        if let Err(error) = self.offsets.try_push(value.len()) {
+            return Err(growth_refusal(error));
+        }
+        if let Err(refused) = self.bytes.extend_from_slice(value) {
+            self.offsets.truncate(before);
+            return Err(refused.into());
+        }
+        Ok(())
+    }
+
+    /// Appends the strings of another, or none of them: refused as ComputeError LengthOverflow where the bytes of both together
+    /// pass the greatest offset.
+    pub fn try_extend(&mut self, other: &ByteStrings<O>) -> PolarsResult<()>
+        ensures fits { total_of self.old < O.limit }
+        ensures extended { MatchResult result
+            (λ _. (self.new ≡ self.old ++ other.now) × (total_of self.old + total_of other.now < O.limit))
+            (λ e. (self.new ≡ self.old) × ((e ≡ OutOfMemory) ⊎ ((e ≡ ComputeError LengthOverflow) × (O.limit ≤ total_of self.old + total_of other.now)))) }
+    {
+        let before = self.len();
+        if let Err(error) = self.push_all(other) {
+            self.truncate(before);
+            return Err(error);
+        }
+        Ok(())
+    }
+
+    /// Appends the strings of another one by one. A refused call keeps those before the refused one.
+    fn push_all(&mut self, other: &ByteStrings<O>) -> PolarsResult<()>
+        ensures fits { total_of self.old < O.limit }
+        ensures front { take (count self.old) self.new ≡ self.old }
+        ensures pushed { MatchResult result
+            (λ _. (self.new ≡ self.old ++ other.now) × (total_of self.old + total_of other.now < O.limit))
+            (λ e. (e ≡ OutOfMemory) ⊎ ((e ≡ ComputeError LengthOverflow) × (O.limit ≤ total_of self.old + total_of other.now))) }
+    {
+        self.total();
+        for i in 0..other.len() {
+            if let Err(error) = self.try_push(other.value(i)) {
+                return Err(error);
+            }
+        }
+        Ok(())
+    }
+
+    /// Keeps the first `len` strings, or all where there are no more. Takes no memory.
+    pub fn truncate(&mut self, len: usize)
+        ensures { self.new ≡ take len self.old }
+    {
+        self.offsets.truncate(len);
+        let end = self.offsets.last().to_usize();
+        self.bytes.truncate(end);
+    }
+
+    /// Makes room for `additional` bytes more.
+    pub fn reserve(&mut self, additional: usize) -> Mem<()>
+        ensures { self.new ≡ self.old }
+    {
+        self.bytes.reserve(additional)
+    }
+
+    /// Gives room that no byte needs back.
+    pub fn shrink_to_fit(&mut self) -> Mem<()>
+        ensures { self.new ≡ self.old }
+    {
+        self.bytes.shrink_to_fit();
+        Ok(())
+    }
+
+    /// The offsets and the bytes, to be shared. No string is left, where memory is short too.
+    pub fn finish(&mut self) -> Mem<(OffsetsBuffer<O>, Buffer<u8>)>
+        ensures value { IfOk result (λ p. pieces (map to_nat (map O.number p.0)) p.1 ≡ self.old) }
+        ensures sound { IfOk result (λ p. AreOffsets O.limit (map O.number p.0)) }
+        ensures slots { IfOk result (λ p. count p.0 ≡ count self.old + 1) }
+        ensures end { IfOk result (λ p. end_of (map O.number p.0) ≡ count p.1) }
+        ensures empty { self.new ≡ [] }
+    {
+        match ByteStrings::new(self.allocator()) {
+            Ok(fresh) => std::mem::replace(self, fresh).freeze(),
+            Err(refused) => {
+                self.truncate(0);
+                Err(refused)
+            }
+        }
+    }
+
+    /// The offsets and the bytes, to be shared.
+    fn freeze(self) -> Mem<(OffsetsBuffer<O>, Buffer<u8>)>
+        ensures value { IfOk result (λ p. pieces (map to_nat (map O.number p.0)) p.1 ≡ self) }
+        ensures sound { IfOk result (λ p. AreOffsets O.limit (map O.number p.0)) }
+        ensures slots { IfOk result (λ p. count p.0 ≡ count self + 1) }
+        ensures end { IfOk result (λ p. end_of (map O.number p.0) ≡ count p.1) }
+    {
+        let alloc = *self.bytes.allocator();
+        self.offsets.len_proxy();
+        let offsets = self.offsets.freeze()?;
+        Ok((offsets, Buffer::from_vec(alloc, self.bytes)?))
+    }
+}
+
+/// Why bytes are refused whose offsets were.
+fn growth_refusal(error: OffsetError) -> PolarsError
+    ensures { (limit end : ℕ) → IsGrowthRefusal error limit end → (result ≡ OutOfMemory) ⊎ ((result ≡ ComputeError LengthOverflow) × (limit ≤ end)) }
+{
+    match error {
+        OffsetError::Overflow => PolarsError::ComputeError(Reason::LengthOverflow),
+        _ => PolarsError::OutOfMemory,
+    }
+}
+
+/// The bytes between two places.
+fn between(bytes: &[u8], start: usize, end: usize) -> &[u8]
+    requires { (start ≤ end) × (end ≤ count bytes.now) }
+    ensures { result.now ≡ take (end - start) (drop start bytes.now) }
+{
+    &bytes[start..end]
+}
+
+/// Where the slot at `i` begins and ends.
+fn bounds_at<O: Offset>(offsets: &[O], i: usize) -> (usize, usize)
+    requires sound { AreOffsets O.limit (map O.number offsets.now) }
+    requires within { i + 1 < count offsets.now }
+    ensures start { slice_get (map O.number offsets.now) i ≡ Some (pos result.0) }
+    ensures end { slice_get (map O.number offsets.now) (i + 1) ≡ Some (pos result.1) }
+    ensures ordered { result.0 ≤ result.1 }
+    ensures to_end { result.1 ≤ end_of (map O.number offsets.now) }
+{
+    (number_at(offsets, i), number_at(offsets, i + 1))
+}
+
+/// The number of the offset at `i`.
+fn number_at<O: Offset>(offsets: &[O], i: usize) -> usize
+    requires sound { AreOffsets O.limit (map O.number offsets.now) }
+    requires within { i < count offsets.now }
+    ensures value { slice_get (map O.number offsets.now) i ≡ Some (pos result) }
+    ensures to_end { result ≤ end_of (map O.number offsets.now) }
+{
+    offsets[i].to_usize()
+}

@@ -1,0 +1,220 @@
+//! The builder of byte strings of one size.
+ghost use Rattle.std.specs.Prelude.{◌≡◌, ◌%◌, ◌/◌, ◌<◌, ℕ, length as count, Some};
+ghost use Rattle.std.specs.Coded.{codes};
+ghost use Rattle.std.proofs.Props.{props};
+ghost use Rattle.arrow_types.specs.Seen.{seen as type_of};
+ghost use Rattle.arrow_types.specs.TypeData as T;
+ghost use Rattle.arrow_flat.specs.Primitives.{MaskFits};
+ghost use Rattle.arrow_bytes.specs.FixedSizeBinaries.{size_of};
+
+use arrow_buffers::{Bitmap, Buffer};
+use arrow_bytes::FixedSizeBinaryArray;
+use arrow_flat::Building;
+use arrow_push::{
+    MaskedBuilder, SolidValues, TryExtend, TryExtendFromSelf, TryPush, ValuesBuilder, ValuesLaws,
+    push_each,
+};
+use arrow_types::{ArrowDataType, Mem, PolarsError, PolarsResult, Reason};
+use std::alloc::{AllocError, Global};
+
+/// A builder of byte strings of one size, without nulls.
+#[derive(Drop)]
+pub struct FixedSizeBinaryValues {
+    dtype: ArrowDataType,
+    size: usize,
+    values: Vec<u8>,
+    ghost sized: { size_of (type_of dtype) ≡ Some size } by { Prim.hlevel (props, codes) },
+    ghost positive: { 0 < size },
+    ghost multiple: { count values.items % size ≡ 0 },
+}
+
+/// A builder of byte strings of one size and nulls.
+pub type MutableFixedSizeBinaryArray = MaskedBuilder<FixedSizeBinaryValues>;
+
+/// A builder that is made for values of a given size.
+pub trait NewSized: Building {
+    ghost use Rattle.std.specs.Prelude.{◌≡◌, ◌<◌, [], IfOk};
+    ghost use Rattle.arrow_types.specs.TypeData.{fixed_size_binary};
+
+    /// No slots yet, for byte strings of `size` bytes each.
+    fn new_sized(alloc: Global, size: usize) -> Mem<Self>
+        requires { 0 < size }
+        ensures { IfOk result (λ b. ((Self.seen b).slots ≡ []) × ((Self.seen b).dtype ≡ fixed_size_binary size)) };
+}
+
+impl Building for FixedSizeBinaryValues {
+    ghost use Rattle.std.specs.Prelude.{refl};
+    ghost use Rattle.arrow_types.specs.Seen.{seen as type_of};
+    ghost use Rattle.arrow_push_bytes.specs.SizedBytes.{built_sized};
+
+    ghost seen = { λ b. built_sized b.size (type_of b.dtype) b.values.items };
+
+    ghost starts = { λ b. record { none_refused = refl; none_lands = refl } };
+}
+
+impl NewSized for FixedSizeBinaryValues {
+    #[tactic(auto, using(arrow_flat::proofs::TypeViews::seen_types))]
+    fn new_sized(alloc: Global, size: usize) -> Mem<FixedSizeBinaryValues> {
+        Ok(FixedSizeBinaryValues {
+            dtype: ArrowDataType::FixedSizeBinary(size),
+            size,
+            values: Vec::new(alloc),
+        })
+    }
+}
+
+impl<V: ValuesBuilder + NewSized> NewSized for MaskedBuilder<V> {
+    fn new_sized(alloc: Global, size: usize) -> Mem<MaskedBuilder<V>> {
+        Ok(MaskedBuilder::over(V::new_sized(alloc, size)?))
+    }
+}
+
+impl ValuesLaws for FixedSizeBinaryValues {
+    ghost use Rattle.std.specs.Prelude.{refl};
+    ghost use Rattle.arrow_push_bytes.specs.SizedBytes.{zeros_of};
+
+    ghost blank = { zeros_of };
+
+    ghost whole = { λ b. refl };
+
+    ghost plain = { λ b ys. refl };
+}
+
+impl ValuesBuilder for FixedSizeBinaryValues {
+    ghost use Rattle.arrow_push_bytes.specs.SizedBytes.{shown_sized};
+
+    type Array = FixedSizeBinaryArray;
+
+    ghost finished = { shown_sized };
+
+    fn dtype(&self) -> &ArrowDataType {
+        &self.dtype
+    }
+
+    fn len(&self) -> usize {
+        self.values.len() / self.size
+    }
+
+    fn allocator(&self) -> Global {
+        *self.values.allocator()
+    }
+
+    fn push_blank(&mut self) -> Mem<()> {
+        let Some(total) = self.values.len().checked_add(self.size) else {
+            return Err(AllocError);
+        };
+        if let Err(refused) = self.values.resize(total, 0) {
+            return Err(refused);
+        }
+        Ok(())
+    }
+
+    fn extend_values(&mut self, other: &FixedSizeBinaryValues) -> PolarsResult<()> {
+        if let Err(refused) = self.values.extend_from_slice(other.values.as_slice()) {
+            return Err(refused.into());
+        }
+        Ok(())
+    }
+
+    fn truncate(&mut self, len: usize) {
+        self.values.truncate(len * self.size);
+    }
+
+    fn reserve(&mut self, additional: usize) -> Mem<()> {
+        match additional.checked_mul(self.size) {
+            Some(bytes) => self.values.reserve(bytes),
+            None => Err(AllocError),
+        }
+    }
+
+    fn shrink_to_fit(&mut self) -> Mem<()> {
+        self.values.shrink_to_fit();
+        Ok(())
+    }
+
+    fn finish_under(&mut self, validity: Option<Bitmap>) -> Mem<FixedSizeBinaryArray> {
+        let alloc = *self.values.allocator();
+        let values = std::mem::replace(&mut self.values, Vec::new(alloc));
+        let dtype = self.dtype.try_clone(alloc)?;
+        let values = Buffer::from_vec(alloc, values)?;
+        Ok(fitted(dtype, self.size, values, validity))
+    }
+}
+
+impl<'a> TryPush<&'a [u8]> for FixedSizeBinaryValues {
+    ghost use Rattle.std.specs.Prelude.{◌≡◌, ⊤};
+    ghost use Rattle.arrow_flat.specs.Slots.{bytes};
+
+    ghost can_take = { λ x. ⊤ };
+
+    ghost stands_for = { λ x y. y ≡ bytes x.now };
+
+    ghost begins = { λ x y. y ≡ bytes x.now };
+
+    fn try_push(&mut self, item: &'a [u8]) -> PolarsResult<()> {
+        if item.len() != self.size {
+            return Err(PolarsError::ComputeError(Reason::WrongWidth));
+        }
+        if let Err(refused) = self.values.extend_from_slice(item) {
+            return Err(refused.into());
+        }
+        Ok(())
+    }
+}
+
+impl<'a> SolidValues<&'a [u8]> for FixedSizeBinaryValues {
+    ghost use Rattle.std.proofs.Common.{ap};
+    ghost use Rattle.arrow_flat.specs.Slots.{is_valid};
+
+    ghost solid = { λ x y e. ap is_valid e };
+
+    ghost solid_begun = { λ x y e. ap is_valid e };
+}
+
+impl<'a> TryExtend<&'a [u8]> for FixedSizeBinaryValues {
+    ghost use Rattle.std.specs.Prelude.{◌≡◌, ⊤};
+    ghost use Rattle.arrow_flat.specs.Slots.{bytes};
+
+    ghost can_take = { λ x. ⊤ };
+
+    ghost stands_for = { λ x y. y ≡ bytes x.now };
+
+    ghost begins = { λ x y. y ≡ bytes x.now };
+
+    fn try_extend<I: IntoIterator<Item = &'a [u8]>>(&mut self, iter: I) -> PolarsResult<()> {
+        push_each(self, iter)
+    }
+}
+
+impl TryExtendFromSelf for FixedSizeBinaryValues {
+    ghost use Rattle.std.specs.Prelude.{⊤, map};
+    ghost use Rattle.arrow_flat.specs.Slots.{bytes};
+    ghost use Rattle.arrow_push_bytes.specs.SizedBytes.{sized_strings, width_refusal};
+
+    ghost from_refusal = { λ a b. width_refusal a.size (map bytes (sized_strings b.size b.values.items)) };
+
+    ghost Bare = { λ b. ⊤ };
+
+    fn try_extend_from_self(&mut self, other: &FixedSizeBinaryValues) -> PolarsResult<()> {
+        self.extend_values(other)
+    }
+}
+
+/// The array of parts that fit.
+fn fitted(
+    dtype: ArrowDataType,
+    size: usize,
+    values: Buffer<u8>,
+    validity: Option<Bitmap>,
+) -> FixedSizeBinaryArray
+    requires sized { size_of (type_of dtype) ≡ Some size }
+    requires positive { 0 < size }
+    requires multiple { count values % size ≡ 0 }
+    requires fits { MaskFits validity (count values / size) }
+    ensures { result ≡ record { dtype = dtype; size = size; values = values; mask = validity } }
+{
+    match FixedSizeBinaryArray::try_new(dtype, values, validity) {
+        Ok(array) => array,
+        Err(_) => unreachable!(),
+    }
+}

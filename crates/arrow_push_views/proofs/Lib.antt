@@ -1,0 +1,3 @@
+pub mod PartsPushed
+pub mod ViewsBuilt
+pub mod ViewsPacked

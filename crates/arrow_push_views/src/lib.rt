@@ -1,0 +1,11 @@
+//! The builder of byte strings and texts by views.
+#![tactic(auto)]
+
+mod binview;
+mod extend;
+mod packed;
+#[cfg(test)]
+mod tests;
+
+pub use binview::{MutableBinaryViewArray, ViewValues};
+pub use extend::ExtendFromLengths;
