@@ -1,5 +1,5 @@
 //! A window over shared bits.
-ghost use Rattle.std.specs.Prelude.{◌≡◌, ◌+◌, ◌<◌, ◌≤◌, length as count, get_or, cond, false, replicate, IfOk};
+ghost use Rattle.std.specs.Prelude.{◌≡◌, ◌+◌, ◌<◌, ◌≤◌, length as count, get_or, false, replicate, IfOk};
 ghost use Rattle.std.specs.List.{count_by};
 ghost use Rattle.arrow_buffers.specs.Bits.{Bits, plain, cut_bits, count_unset, byte_count, both, same};
 

@@ -1,5 +1,5 @@
 //! A window over shared items.
-ghost use Rattle.std.specs.Prelude.{◌≡◌, ◌+◌, ◌<◌, ◌≤◌, ◌^◌, length as count, take, drop, IfOk};
+ghost use Rattle.std.specs.Prelude.{◌≡◌, ◌+◌, ◌<◌, ◌≤◌, length as count, take, drop, IfOk};
 ghost use Rattle.std.specs.Slice.Iter.{iter_rest};
 
 use crate::Mem;

@@ -125,6 +125,13 @@ impl MutableBitmap {
         self.bytes.reserve(bytes.saturating_sub(self.bytes.len()))
     }
 
+    /// Gives room back that no bit needs.
+    pub fn shrink_to_fit(&mut self)
+        ensures { self.new ≡ self.old }
+    {
+        self.bytes.shrink_to_fit();
+    }
+
     /// The bits as a bitmap, with no bits before them.
     pub fn freeze(self) -> Mem<Bitmap>
         ensures { IfOk result (λ b. b ≡ plain self) }

@@ -1,8 +1,8 @@
 //! Offsets that grow.
-ghost use Rattle.std.specs.Prelude.{◌≡◌, ℕ, ◌+◌, ◌-◌, ◌^◌, ◌<◌, ◌≤◌, ℤ, pos, ◌≤ℤ◌, ◌<ℤ◌, false, length as count, [], ◌∷◌, ◌++◌, map, take, drop, replicate, sum, slice_get, Some, OnOk, OnErr, IfOk, IfErr, MatchResult, MatchOption};
+ghost use Rattle.std.specs.Prelude.{◌≡◌, ◌+◌, ◌-◌, ◌<◌, ◌≤◌, ℤ, pos, ◌≤ℤ◌, false, length as count, [], ◌∷◌, ◌++◌, map, take, drop, replicate, sum, slice_get, Some, OnOk, OnErr, IfOk, IfErr, MatchResult, MatchOption};
 ghost use Rattle.arrow_buffers.specs.Offsets.{AreOffsets, Ascend, falls, offsets_refusal, end_of, end_from, ends, moved, IsGrowthRefusal, to_nat, first_of};
 
-use crate::offsets_buffer::{last_of, number_at};
+use crate::offsets_buffer::{last_of, number_at, slot_bounds};
 use crate::{Buffer, Mem, Offset, OffsetError, OffsetsBuffer};
 use std::alloc::{AllocError, Global};
 use std::marker::Model;
@@ -69,6 +69,20 @@ impl<O: Offset> Offsets<O> {
         last_of(self.items.as_slice())
     }
 
+    /// Where slot `i` begins and ends.
+    pub fn start_end(&self, i: usize) -> (usize, usize)
+        requires { i + 1 < count self.now }
+        ensures start { slice_get (map O.number self.now) i ≡ Some (pos result.0) }
+        ensures end { slice_get (map O.number self.now) (i + 1) ≡ Some (pos result.1) }
+
+        // It lies within the slots.
+        ensures ordered { result.0 ≤ result.1 }
+        ensures from_first { first_of (map O.number self.now) ≤ result.0 }
+        ensures to_end { result.1 ≤ end_of (map O.number self.now) }
+    {
+        slot_bounds(self.items.as_slice(), i)
+    }
+
     /// The offsets in order.
     pub fn as_slice(&self) -> &[O]
         ensures value { result.now ≡ self.now }
@@ -84,6 +98,20 @@ impl<O: Offset> Offsets<O> {
         if slots < self.items.len() {
             self.items.truncate(slots + 1);
         }
+    }
+
+    /// Makes room for `n` more slots.
+    pub fn reserve(&mut self, n: usize) -> Mem<()>
+        ensures { self.new ≡ self.old }
+    {
+        self.items.reserve(n)
+    }
+
+    /// Gives room back that no slot needs.
+    pub fn shrink_to_fit(&mut self)
+        ensures { self.new ≡ self.old }
+    {
+        self.items.shrink_to_fit();
     }
 
     /// The same offsets, to be shared.

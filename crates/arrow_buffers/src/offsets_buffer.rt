@@ -67,8 +67,7 @@ impl<O: Offset> OffsetsBuffer<O> {
         ensures from_first { first_of (map O.number self.now) ≤ result.0 }
         ensures to_end { result.1 ≤ end_of (map O.number self.now) }
     {
-        let items = self.items.as_slice();
-        (number_at(items, i), number_at(items, i + 1))
+        slot_bounds(self.items.as_slice(), i)
     }
 
     /// The offsets of `len` slots from `start` on.
@@ -106,6 +105,19 @@ pub(crate) fn last_of<O: Offset>(items: &[O]) -> O
     ensures number { O.number result ≡ pos (end_of (map O.number items.now)) }
 {
     items[items.len() - 1]
+}
+
+/// Where slot `i` of some offsets begins and ends.
+pub(crate) fn slot_bounds<O: Offset>(items: &[O], i: usize) -> (usize, usize)
+    requires sound { AreOffsets O.limit (map O.number items.now) }
+    requires within { i + 1 < count items.now }
+    ensures start { slice_get (map O.number items.now) i ≡ Some (pos result.0) }
+    ensures end { slice_get (map O.number items.now) (i + 1) ≡ Some (pos result.1) }
+    ensures ordered { result.0 ≤ result.1 }
+    ensures from_first { first_of (map O.number items.now) ≤ result.0 }
+    ensures to_end { result.1 ≤ end_of (map O.number items.now) }
+{
+    (number_at(items, i), number_at(items, i + 1))
 }
 
 /// The number of the offset at `i`.

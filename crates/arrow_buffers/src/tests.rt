@@ -120,6 +120,7 @@ fn bits_grow_and_freeze(rt: HostRuntime) -> Mem<()> {
         built.set(1, false);
     }
     built.truncate(6);
+    built.shrink_to_fit();
     let mask = built.freeze()?;
     let all = Bitmap::new_with_value(alloc, true, 6)?;
     assert!(rt; gives(&mask, &[true, false, false, true, true, true]) && all.set_bits() == 6);
@@ -168,10 +169,12 @@ fn buffers_are_windows(rt: HostRuntime) -> Mem<()> {
 
 fn grown<O: Offset>(alloc: Global) -> Result<OffsetsBuffer<O>, OffsetError> {
     let mut grown = Offsets::<O>::new(alloc)?;
+    grown.reserve(6)?;
     grown.try_push(3)?;
     grown.extend_constant(2)?;
     grown.try_extend_from_lengths(&[1, 0, 4])?;
     grown.truncate(5);
+    grown.shrink_to_fit();
     Ok(grown.freeze()?)
 }
 

@@ -1,5 +1,6 @@
 -- What a contract sees of an array of byte strings of one size.
 use Rattle.std.specs.Prelude.{◌≡◌, ℕ, ◌-◌, ◌*◌, ◌/◌, ◌%◌, ◌<◌, List, length, take, drop, Option, Some, None}
+use Rattle.std.specs.Option.{unwrap_or}
 use Rattle.arrow_buffers.specs.Bits.{Bits}
 use Rattle.arrow_types.specs.Carried.{IsCarried}
 use Rattle.arrow_types.specs.Seen.{seen}
@@ -25,6 +26,10 @@ abbrev pub size_of : TypeData → Option ℕ
 size_of (T.fixed_size_binary k) = Some k
 size_of (T.extension n t m) = size_of t
 size_of _ = None
+
+-- The same, 0 for another type.
+abbrev pub size_or_zero : TypeData → ℕ
+size_or_zero t = unwrap_or (size_of t) 0
 
 -- What every such array keeps.
 pub record IsSound (t : ArrowDataType) (k : ℕ) (m : Option Bits) (n : ℕ) : Type 0 where

@@ -1,5 +1,8 @@
 //! Arrays of byte strings under a mask.
 ghost use Rattle.std.specs.Prelude.{◌≡◌, ◌+◌, ◌<◌, ◌≤◌, pred, length as count, map, slice_get, not, Some, MatchResult, IfOk};
+ghost use Rattle.arrow_buffers.specs.Offsets.{end_of};
+ghost use Rattle.arrow_types.specs.Seen.{seen};
+ghost use Rattle.arrow_types.specs.Types.{physical_of};
 ghost use Rattle.arrow_flat.specs.Primitives.{MaskFits, valid_at, unset_in, seen_mask};
 ghost use Rattle.arrow_flat.specs.Pieces.{seen_bytes};
 ghost use Rattle.arrow_bytes.specs.Binaries.{IsSound, Refused, binary_layout, cut, half};
@@ -74,6 +77,26 @@ impl<O: Offset> BinaryArray<O> {
             values,
             validity,
         })
+    }
+
+    /// The array of parts that fit together: the last offset is within the bytes, a mask has one bit a slot, and the type is stored so.
+    ///
+    /// Takes no memory.
+    pub fn new(
+        dtype: ArrowDataType,
+        offsets: OffsetsBuffer<O>,
+        values: Buffer<u8>,
+        validity: Option<Bitmap>,
+    ) -> BinaryArray<O>
+        requires within { end_of (map O.number offsets) ≤ count values }
+        requires fits { MaskFits validity (pred (count (map O.number offsets))) }
+        requires stored { physical_of (seen dtype) ≡ Some (binary_layout O.IS_LARGE) }
+        ensures { result ≡ record { dtype = dtype; offsets = offsets; values = values; mask = validity } }
+    {
+        match BinaryArray::try_new(dtype, offsets, values, validity) {
+            Ok(array) => array,
+            Err(_) => unreachable!(),
+        }
     }
 
     /// The whole type, extensions included.

@@ -1,10 +1,9 @@
 //! Arrays of byte strings of one size under a mask.
-ghost use Rattle.std.specs.Prelude.{◌≡◌, ◌+◌, ◌*◌, ◌<◌, ◌≤◌, length as count, take, drop, slice_get, not, Some, MatchResult, IfOk};
-ghost use Rattle.arrow_types.specs.Carried.{IsCarried};
+ghost use Rattle.std.specs.Prelude.{◌≡◌, ◌+◌, ◌*◌, ◌/◌, ◌%◌, ◌<◌, ◌≤◌, length as count, take, drop, slice_get, not, Some, MatchResult, IfOk};
 ghost use Rattle.arrow_types.specs.Seen.{seen};
 ghost use Rattle.arrow_flat.specs.Primitives.{MaskFits, valid_at, unset_in, seen_mask};
 ghost use Rattle.arrow_flat.specs.Pieces.{seen_bytes};
-ghost use Rattle.arrow_bytes.specs.FixedSizeBinaries.{FixedSizeBinaries, IsSound, Refused, size_of, count_of, values_of, slots, cut, half};
+ghost use Rattle.arrow_bytes.specs.FixedSizeBinaries.{FixedSizeBinaries, IsSound, Refused, size_or_zero, count_of, values_of, slots, cut, half};
 
 use crate::stored::{know_sized, size_of_values};
 use arrow_buffers::{Bitmap, Buffer};
@@ -76,6 +75,33 @@ impl FixedSizeBinaryArray {
             values,
             validity,
         })
+    }
+
+    /// The array of parts that fit together: the type is one of values of one size that isn't 0, the size divides the count of bytes,
+    /// and a mask has one bit a value.
+    ///
+    /// Takes no memory.
+    pub fn new(
+        dtype: ArrowDataType,
+        values: Buffer<u8>,
+        validity: Option<Bitmap>,
+    ) -> FixedSizeBinaryArray
+        requires positive { 0 < size_or_zero (seen dtype) }
+        requires multiple { count values % size_or_zero (seen dtype) ≡ 0 }
+        requires fits { MaskFits validity (count values / size_or_zero (seen dtype)) }
+        ensures { result ≡ record { dtype = dtype; size = size_or_zero (seen dtype); values = values; mask = validity } }
+    {
+        let Some(size) = size_of_values(&dtype) else {
+            unreachable!();
+        };
+        know_led(&validity);
+        know_sized(&dtype, size);
+        FixedSizeBinaryArray {
+            dtype,
+            size,
+            values,
+            validity,
+        }
     }
 
     /// The whole type, extensions included.

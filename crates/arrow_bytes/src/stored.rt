@@ -35,9 +35,9 @@ pub(crate) fn is_stored_as_texts(dtype: &ArrowDataType, is_large: bool) -> bool
     }
 }
 
-/// The size that a type of values of one size declares, through extensions; None for another type.
+/// The size in bytes that a type of byte strings of one size declares, through extensions; None for another type.
 #[tactic(auto, using(arrow_flat::proofs::TypeViews::seen_types))]
-pub(crate) fn size_of_values(dtype: &ArrowDataType) -> Option<usize>
+pub fn size_of_values(dtype: &ArrowDataType) -> Option<usize>
     ensures { result ≡ size_of (seen dtype.now) }
 {
     match dtype {

@@ -1,7 +1,10 @@
 //! Arrays of texts under a mask.
 ghost use Rattle.std.specs.Prelude.{◌≡◌, ◌+◌, ◌<◌, ◌≤◌, pred, length as count, map, slice_get, not, Some, MatchResult, IfOk};
+ghost use Rattle.arrow_buffers.specs.Offsets.{end_of, to_nat};
+ghost use Rattle.arrow_types.specs.Seen.{seen};
+ghost use Rattle.arrow_types.specs.Types.{physical_of};
 ghost use Rattle.arrow_flat.specs.Primitives.{MaskFits, valid_at, unset_in, seen_mask};
-ghost use Rattle.arrow_flat.specs.Pieces.{seen_bytes};
+ghost use Rattle.arrow_flat.specs.Pieces.{pieces, seen_bytes, AreTexts};
 ghost use Rattle.arrow_bytes.specs.Binaries.{text_layout, cut, half};
 ghost use Rattle.arrow_bytes.specs.Texts.{IsSound, Refused};
 
@@ -80,6 +83,34 @@ impl<O: Offset> Utf8Array<O> {
             values,
             validity,
         })
+    }
+
+    /// The array of parts that fit together: the last offset is within the bytes, a mask has one bit a slot, the type is stored so, and
+    /// the bytes of each slot, a null or not, are UTF-8.
+    ///
+    /// Takes no memory, and looks at no byte.
+    pub fn new(
+        dtype: ArrowDataType,
+        offsets: OffsetsBuffer<O>,
+        values: Buffer<u8>,
+        validity: Option<Bitmap>,
+    ) -> Utf8Array<O>
+        requires within { end_of (map O.number offsets) ≤ count values }
+        requires fits { MaskFits validity (pred (count (map O.number offsets))) }
+        requires stored { physical_of (seen dtype) ≡ Some (text_layout O.IS_LARGE) }
+        requires texts { AreTexts (pieces (map to_nat (map O.number offsets)) values) }
+        ensures { result ≡ record { dtype = dtype; offsets = offsets; values = values; mask = validity } }
+    {
+        know_led(&validity);
+        if !is_stored_as_texts(&dtype, O::IS_LARGE) {
+            unreachable!();
+        }
+        Utf8Array {
+            dtype,
+            offsets,
+            values,
+            validity,
+        }
     }
 
     /// The whole type, extensions included.

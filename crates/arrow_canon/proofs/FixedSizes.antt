@@ -6,14 +6,10 @@ use Rattle.std.specs.Simd.Lanes.{zip2}
 use Rattle.std.proofs.lemmas.List.{take-map, drop-map, length-map, length-take-le, length-drop, length-replicate}
 use Rattle.std.proofs.Math.Nat.{div-mul-le_self}
 use Rattle.arrow_buffers.specs.Bits.{Bits}
-use Rattle.arrow_bytes.specs.FixedSizeBinaries.{FixedSizeBinaries, IsSound, Refused, RefusedAt, size_of, count_of, values_of, slots}
+use Rattle.arrow_bytes.specs.FixedSizeBinaries.{FixedSizeBinaries, IsSound, size_or_zero, count_of, values_of, slots}
 use Rattle.arrow_types.specs.Seen.{seen}
 use Rattle.arrow_types.specs.TypeData.{TypeData}
 use Rattle.arrow_types.specs.declared.datatype.ArrowDataType.{ArrowDataType}
-use Rattle.arrow_types.specs.declared.error.PolarsError.{PolarsError}
-use Rattle.arrow_types.specs.declared.error.PolarsError.TheVariants.{ComputeError}
-use Rattle.arrow_types.specs.declared.error.Reason.{Reason}
-use Rattle.arrow_types.specs.declared.error.Reason.TheVariants.{MaskLength, WrongLogicalType, NotCarried, NotMultiple}
 use Rattle.arrow_flat.specs.Natives.{octets}
 use Rattle.arrow_flat.specs.Pieces.{chunks}
 use Rattle.arrow_flat.specs.Primitives.{MaskFits, masked as option_masked}
@@ -125,35 +121,17 @@ canonical_sized a b sound dtype size values mask =
     ∙ ap (λ ys. canon t (masked a.mask ys)) (map-map bytes octets (values_of a))
     ∙ pieces_canonical t k a.mask (values_of a) (sized_form t k sound.sized) (pieces_fit a sound.fits))
 
--- ---- no array refuses such parts
+-- ---- the parts fit together
 
-not_refused_at : (reason : Reason) (k : ℕ) (m : Option Bits) (n : ℕ) → 0 < k → n % k ≡ 0 → MaskFits m (n / k) → RefusedAt reason (Some k) m n → ⊥
-not_refused_at WrongLogicalType k m n p e f h = cc
-not_refused_at NotCarried k m n p e f h = let same : k ≡ 0 = cc in omega arith
-not_refused_at NotMultiple k m n p e f h = h.1 e
-not_refused_at MaskLength k m n p e f h = h.2 f
-not_refused_at _ k m n p e f h = h
+module _ (a : FixedSizeBinaries) (sound : IsSound a.dtype a.size a.mask (length a.values)) where
+  pub canonical_size : (t : ArrowDataType) → t ≡ a.dtype → size_or_zero (seen t) ≡ a.size
+  canonical_size t e = ap (λ d. size_or_zero (seen d)) e ∙ ap (λ o. unwrap_or o 0) sound.sized
 
-not_refused : (error : PolarsError) (t : ArrowDataType) (k : ℕ) (m : Option Bits) (n : ℕ) → size_of (seen t) ≡ Some k → 0 < k → n % k ≡ 0 → MaskFits m (n / k)
-    → Refused error t m n → ⊥
-not_refused (ComputeError reason) t k m n s p e f h = not_refused_at reason k m n p e f (subst (λ o. RefusedAt reason o m n) s h)
-not_refused _ t k m n s p e f h = h
+  pub canonical_multiple : (vs : List ℕ) → vs ≡ joined a.size (slots a) → length vs % a.size ≡ 0
+  canonical_multiple vs e =
+      ap (λ (bs : List ℕ). length bs % a.size) e ∙ ap (λ n. n % a.size) (joined_length a sound.fits) ∙ whole_multiple (count_of a) a.size sound.positive
 
-pub canonical_fits_size : (a : FixedSizeBinaries) (t : ArrowDataType) (m : Option Bits) (vs : List ℕ) (error : PolarsError) → IsSound a.dtype a.size a.mask (length a.values)
-    → t ≡ a.dtype → m ≡ plain_mask a.mask → vs ≡ joined a.size (slots a) → Refused error t m (length vs) → ⊥
-canonical_fits_size a t m vs error sound dtype mask values h =
-    let k = a.size in
-    let bs = joined k (slots a) in
-    let P : ArrowDataType → Type 0 = λ t. Refused error t m (length vs) in
-    let Q : Option Bits → Type 0 = λ m. Refused error a.dtype m (length vs) in
-    let R : List ℕ → Type 0 = λ vs. Refused error a.dtype (plain_mask a.mask) (length vs) in
-    not_refused error a.dtype k (plain_mask a.mask) (length bs) sound.sized sound.positive
-    (ap (λ n. n % k) (joined_length a sound.fits) ∙ whole_multiple (count_of a) k sound.positive)
-    (subst (MaskFits (plain_mask a.mask)) (sym (joined_count a sound.positive sound.fits)) (plain_fits a.mask (count_of a) sound.fits))
-    (subst R values (subst Q mask (subst P dtype h)))
-
--- the size is that of the type
-pub one_size : (t u : ArrowDataType) (j k : ℕ) → t ≡ u → size_of (seen t) ≡ Some j → size_of (seen u) ≡ Some k → j ≡ k
-one_size t u j k e h l =
-    let both : Some j ≡ Some k = sym h ∙ ap (λ d. size_of (seen d)) e ∙ l in
-    cc
+  pub canonical_mask_fits : (m : Option Bits) (vs : List ℕ) → m ≡ plain_mask a.mask → vs ≡ joined a.size (slots a) → MaskFits m (length vs / a.size)
+  canonical_mask_fits m vs e f =
+      let n : length vs / a.size ≡ count_of a = ap (λ (bs : List ℕ). length bs / a.size) f ∙ joined_count a sound.positive sound.fits in
+      subst (λ k. MaskFits k (length vs / a.size)) (sym e) (subst (MaskFits (plain_mask a.mask)) (sym n) (plain_fits a.mask (count_of a) sound.fits))

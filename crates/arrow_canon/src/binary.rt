@@ -1,11 +1,6 @@
 //! The canonical arrays of byte strings and texts.
-ghost use Rattle.std.specs.Prelude.{◌≡◌, ◌<◌, ◌≤◌, map, pred, sum, length as count, Some, IfOk};
-ghost use Rattle.arrow_buffers.specs.Offsets.{end_of, to_nat};
-ghost use Rattle.arrow_bytes.specs.Binaries.{binary_layout as bytes_layout, text_layout};
-ghost use Rattle.arrow_flat.specs.Pieces.{pieces, AreTexts};
-ghost use Rattle.arrow_flat.specs.Primitives.{MaskFits};
+ghost use Rattle.std.specs.Prelude.{◌≡◌, ◌<◌, map, sum, IfOk};
 ghost use Rattle.arrow_types.specs.Seen.{seen};
-ghost use Rattle.arrow_types.specs.Types.{physical_of};
 ghost use Rattle.arrow_meaning.specs.Denote.{denote};
 ghost use Rattle.arrow_meaning.specs.Canon.{canon, offsets as canon_offsets};
 ghost use Rattle.arrow_meaning.specs.Nodes.{binary_layout};
@@ -14,9 +9,9 @@ ghost use Rattle.arrow_canon.specs.Steps.{joined, lengths};
 use crate::byte_slots::ByteSlots;
 use crate::joined::{joined_bytes, offsets_from_zero, slot_lengths};
 use crate::mask::canonical_mask;
-use arrow_buffers::{Bitmap, Buffer, Offset, OffsetsBuffer};
+use arrow_buffers::{Buffer, Offset, OffsetsBuffer};
 use arrow_bytes::{BinaryArray, Utf8Array};
-use arrow_types::{ArrowDataType, Mem};
+use arrow_types::Mem;
 use std::alloc::Global;
 
 /// The canonical array of an array's slots: the bytes behind one another, none for a null, and offsets from 0.
@@ -27,7 +22,7 @@ pub fn canonical_binary<O: Offset>(alloc: Global, array: &BinaryArray<O>) -> Mem
     let dtype = array.dtype().try_clone(alloc)?;
     let (offsets, values) = canonical_strings::<O, BinaryArray<O>>(alloc, array)?;
     let validity = canonical_mask(alloc, array.validity())?;
-    Ok(fitted_binary(dtype, offsets, values, validity))
+    Ok(BinaryArray::new(dtype, offsets, values, validity))
 }
 
 /// The canonical array of an array's slots: the texts behind one another, none for a null, and offsets from 0.
@@ -38,7 +33,7 @@ pub fn canonical_utf8<O: Offset>(alloc: Global, array: &Utf8Array<O>) -> Mem<Utf
     let dtype = array.dtype().try_clone(alloc)?;
     let (offsets, values) = canonical_strings::<O, Utf8Array<O>>(alloc, array)?;
     let validity = canonical_mask(alloc, array.validity())?;
-    Ok(fitted_utf8(dtype, offsets, values, validity))
+    Ok(Utf8Array::new(dtype, offsets, values, validity))
 }
 
 /// The offsets from 0 of an array's slots, and their bytes behind one another.
@@ -62,41 +57,4 @@ fn canonical_offsets<O: Offset, A: ByteSlots>(alloc: Global, array: &A) -> Mem<O
 {
     let lengths = slot_lengths(alloc, array)?;
     offsets_from_zero(alloc, lengths.as_slice())
-}
-
-/// The array of byte strings of parts that fit.
-fn fitted_binary<O: Offset>(
-    dtype: ArrowDataType,
-    offsets: OffsetsBuffer<O>,
-    values: Buffer<u8>,
-    validity: Option<Bitmap>,
-) -> BinaryArray<O>
-    requires within { end_of (map O.number offsets) ≤ count values }
-    requires fits { MaskFits validity (pred (count (map O.number offsets))) }
-    requires stored { physical_of (seen dtype) ≡ Some (bytes_layout O.IS_LARGE) }
-    ensures { result ≡ record { dtype = dtype; offsets = offsets; values = values; mask = validity } }
-{
-    match BinaryArray::try_new(dtype, offsets, values, validity) {
-        Ok(array) => array,
-        Err(_) => unreachable!(),
-    }
-}
-
-/// The array of texts of parts that fit.
-fn fitted_utf8<O: Offset>(
-    dtype: ArrowDataType,
-    offsets: OffsetsBuffer<O>,
-    values: Buffer<u8>,
-    validity: Option<Bitmap>,
-) -> Utf8Array<O>
-    requires within { end_of (map O.number offsets) ≤ count values }
-    requires fits { MaskFits validity (pred (count (map O.number offsets))) }
-    requires stored { physical_of (seen dtype) ≡ Some (text_layout O.IS_LARGE) }
-    requires texts { AreTexts (pieces (map to_nat (map O.number offsets)) values) }
-    ensures { result ≡ record { dtype = dtype; offsets = offsets; values = values; mask = validity } }
-{
-    match Utf8Array::try_new(dtype, offsets, values, validity) {
-        Ok(array) => array,
-        Err(_) => unreachable!(),
-    }
 }

@@ -1,10 +1,8 @@
 //! The canonical array of bits.
-ghost use Rattle.std.specs.Prelude.{◌≡◌, false, length as count, Some, IfOk};
+ghost use Rattle.std.specs.Prelude.{◌≡◌, false, Some, IfOk};
 ghost use Rattle.arrow_buffers.specs.Bits.{plain};
 ghost use Rattle.arrow_flat.specs.Booleans.{slots};
-ghost use Rattle.arrow_flat.specs.Primitives.{MaskFits};
 ghost use Rattle.arrow_types.specs.Seen.{seen};
-ghost use Rattle.arrow_types.specs.Types.{physical_of};
 ghost use Rattle.arrow_types.specs.declared.datatype.PhysicalType.TheVariants as physical;
 ghost use Rattle.arrow_meaning.specs.Denote.{denote};
 ghost use Rattle.arrow_meaning.specs.Canon.{canon};
@@ -14,7 +12,7 @@ ghost use Rattle.arrow_canon.specs.Steps.{values_or};
 use crate::mask::{canonical_mask, plain_bits};
 use arrow_buffers::Bitmap;
 use arrow_flat::BooleanArray;
-use arrow_types::{ArrowDataType, Mem};
+use arrow_types::Mem;
 use std::alloc::Global;
 
 /// The canonical array of an array's slots: false under nulls, and no bits before the first.
@@ -24,7 +22,7 @@ pub fn canonical_boolean(alloc: Global, array: &BooleanArray) -> Mem<BooleanArra
     let dtype = array.dtype().try_clone(alloc)?;
     let values = canonical_bits(alloc, array)?;
     let validity = canonical_mask(alloc, array.validity())?;
-    Ok(fitted(dtype, values, validity))
+    Ok(BooleanArray::new(dtype, values, validity))
 }
 
 /// The bits, and unset ones under nulls.
@@ -35,17 +33,5 @@ fn canonical_bits(alloc: Global, array: &BooleanArray) -> Mem<Bitmap>
     match array.validity() {
         None => plain_bits(alloc, array.values()),
         Some(mask) => array.values().and(alloc, mask),
-    }
-}
-
-/// The array of parts whose mask fits.
-fn fitted(dtype: ArrowDataType, values: Bitmap, validity: Option<Bitmap>) -> BooleanArray
-    requires fits { MaskFits validity (count values.bits) }
-    requires stored { physical_of (seen dtype) ≡ Some physical.Boolean }
-    ensures { result ≡ record { dtype = dtype; values = values; mask = validity } }
-{
-    match BooleanArray::try_new(dtype, values, validity) {
-        Ok(array) => array,
-        Err(_) => unreachable!(),
     }
 }

@@ -23,8 +23,5 @@ pub fn canonical_fixed_size_binary(
     let values = joined_bytes(alloc, array, array.size(), array.values().len())?;
     let values = Buffer::from_vec(alloc, values)?;
     let validity = canonical_mask(alloc, array.validity())?;
-    match FixedSizeBinaryArray::try_new(dtype, values, validity) {
-        Ok(canonical) => Ok(canonical),
-        Err(_) => unreachable!(),
-    }
+    Ok(FixedSizeBinaryArray::new(dtype, values, validity))
 }

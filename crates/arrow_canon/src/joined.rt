@@ -1,5 +1,5 @@
 //! The bytes of slots behind one another, and where each ends.
-ghost use Rattle.std.specs.Prelude.{◌≡◌, ◌++◌, ◌<◌, pos, map, length as count, [], replicate, sum, unwrap_or, IfOk, OnOk};
+ghost use Rattle.std.specs.Prelude.{◌≡◌, ◌++◌, ◌<◌, map, length as count, [], replicate, sum, unwrap_or, IfOk, OnOk};
 ghost use Rattle.arrow_flat.specs.Pieces.{seen_bytes};
 ghost use Rattle.arrow_meaning.specs.Canon.{offsets};
 ghost use Rattle.arrow_canon.specs.Steps.{joined, lengths};

@@ -1,8 +1,7 @@
 //! The canonical array of values of fixed width.
-ghost use Rattle.std.specs.Prelude.{◌≡◌, length as count, Some, IfOk};
-ghost use Rattle.arrow_flat.specs.Primitives.{MaskFits, slots};
+ghost use Rattle.std.specs.Prelude.{◌≡◌, IfOk};
+ghost use Rattle.arrow_flat.specs.Primitives.{slots};
 ghost use Rattle.arrow_types.specs.Seen.{seen};
-ghost use Rattle.arrow_types.specs.Types.{physical_of};
 ghost use Rattle.arrow_types.specs.declared.datatype.PhysicalType.TheVariants as physical;
 ghost use Rattle.arrow_meaning.specs.Denote.{denote};
 ghost use Rattle.arrow_meaning.specs.Canon.{canon};
@@ -10,9 +9,9 @@ ghost use Rattle.arrow_meaning.specs.Nodes.{primitive_layout};
 ghost use Rattle.arrow_canon.specs.Steps.{values_or};
 
 use crate::mask::canonical_mask;
-use arrow_buffers::{Bitmap, Buffer};
+use arrow_buffers::Buffer;
 use arrow_flat::{NativeType, PrimitiveArray};
-use arrow_types::{ArrowDataType, Mem};
+use arrow_types::Mem;
 use std::alloc::Global;
 
 /// The canonical array of an array's slots: zeros under nulls.
@@ -26,7 +25,7 @@ pub fn canonical_primitive<T: NativeType>(
     let values = canonical_values(alloc, array)?;
     let values = Buffer::from_vec(alloc, values)?;
     let validity = canonical_mask(alloc, array.validity())?;
-    Ok(fitted(dtype, values, validity))
+    Ok(PrimitiveArray::new(dtype, values, validity))
 }
 
 /// The values, and zeros under nulls.
@@ -37,20 +36,4 @@ fn canonical_values<T: NativeType>(alloc: Global, array: &PrimitiveArray<T>) -> 
         .iter()
         .map(|slot| slot.unwrap_or(T::zero()))
         .collect(alloc)
-}
-
-/// The array of parts whose mask fits.
-fn fitted<T: NativeType>(
-    dtype: ArrowDataType,
-    values: Buffer<T>,
-    validity: Option<Bitmap>,
-) -> PrimitiveArray<T>
-    requires fits { MaskFits validity (count values) }
-    requires stored { physical_of (seen dtype) ≡ Some (physical.Primitive T.PRIMITIVE) }
-    ensures { result ≡ record { dtype = dtype; values = values; mask = validity } }
-{
-    match PrimitiveArray::try_new(dtype, values, validity) {
-        Ok(array) => array,
-        Err(_) => unreachable!(),
-    }
 }

@@ -1,13 +1,11 @@
 //! The canonical arrays of byte strings and texts by views.
-ghost use Rattle.std.specs.Prelude.{◌≡◌, ◌^◌, ◌≤◌, ◌<◌, ◌++◌, ◌∷◌, nat_le, cond, map, sum, length as count, [], slice_get, Some, IfOk, IsErrOf};
+ghost use Rattle.std.specs.Prelude.{◌≡◌, ◌^◌, ◌≤◌, ◌<◌, nat_le, cond, map, sum, length as count, [], slice_get, Some, IfOk, IsErrOf};
 ghost use Rattle.arrow_flat.specs.Natives.{octets};
 ghost use Rattle.arrow_flat.specs.Packs.{view_limit, pack, packed_views};
-ghost use Rattle.arrow_flat.specs.Primitives.{MaskFits};
 ghost use Rattle.arrow_flat.specs.Views.{is_short, longs};
 ghost use Rattle.arrow_types.specs.Seen.{seen};
-ghost use Rattle.arrow_types.specs.Types.{physical_of};
 ghost use Rattle.arrow_types.specs.declared.error.GrowError.TheVariants as grow;
-ghost use Rattle.arrow_views.specs.ViewArrays.{view_layout as stored_views, AreViews, AreTextsIf, values_in, slots};
+ghost use Rattle.arrow_views.specs.ViewArrays.{slots};
 ghost use Rattle.arrow_pack.specs.Packing.{packed_on, packed_view};
 ghost use Rattle.arrow_meaning.specs.Canon.{canon};
 ghost use Rattle.arrow_meaning.specs.Denote.{denote};
@@ -16,9 +14,9 @@ ghost use Rattle.arrow_meaning.specs.Nodes.{view_layout};
 ghost use Rattle.arrow_canon.specs.Steps.{values_or};
 
 use crate::mask::canonical_mask;
-use arrow_buffers::{Bitmap, Buffer};
+use arrow_buffers::Buffer;
 use arrow_pack::ViewPacker;
-use arrow_types::{ArrowDataType, GrowError, Mem};
+use arrow_types::{GrowError, Mem};
 use arrow_views::{BinaryViewArrayGeneric, View, ViewType};
 use std::alloc::Global;
 
@@ -87,7 +85,7 @@ fn packed_array<T: ViewType>(
     let (views, buffers) = packed_values(alloc, array)?;
     let views = Buffer::from_vec(alloc, views)?;
     let validity = canonical_mask(alloc, array.validity())?;
-    Ok(fitted(dtype, views, buffers, validity))
+    Ok(BinaryViewArrayGeneric::new(dtype, views, buffers, validity))
 }
 
 /// The views of the values, none for a null, and the buffers of the long ones.
@@ -123,24 +121,5 @@ fn packed_slot(packer: &mut ViewPacker, value: &[u8]) -> Mem<View>
         Ok(View::new_inline(value))
     } else {
         packer.push(value)
-    }
-}
-
-/// The array of parts that fit.
-fn fitted<T: ViewType>(
-    dtype: ArrowDataType,
-    views: Buffer<View>,
-    buffers: Vec<Buffer<u8>>,
-    validity: Option<Bitmap>,
-) -> BinaryViewArrayGeneric<T>
-    requires fits { MaskFits validity (count views) }
-    requires stored { physical_of (seen dtype) ≡ Some (stored_views T.IS_TEXT) }
-    requires placed { AreViews (map octets buffers.items) views }
-    requires texts { AreTextsIf T.IS_TEXT (values_in (map octets buffers.items) views) }
-    ensures { result ≡ record { dtype = dtype; views = views; buffers = map octets buffers.items; mask = validity } }
-{
-    match BinaryViewArrayGeneric::try_new(dtype, views, buffers, validity) {
-        Ok(array) => array,
-        Err(_) => unreachable!(),
     }
 }

@@ -1,5 +1,7 @@
 //! Arrays of single bits under a mask.
 ghost use Rattle.std.specs.Prelude.{◌≡◌, ◌+◌, ◌<◌, ◌≤◌, length as count, slice_get, not, Some, MatchResult, IfOk};
+ghost use Rattle.arrow_types.specs.Seen.{seen};
+ghost use Rattle.arrow_types.specs.Types.{physical_of};
 ghost use Rattle.arrow_types.specs.declared.datatype.PhysicalType.TheVariants as physical;
 ghost use Rattle.arrow_flat.specs.Primitives.{MaskFits, valid_at, unset_in, seen_mask};
 ghost use Rattle.arrow_flat.specs.Booleans.{Booleans, IsSound, slots, cut, half};
@@ -65,6 +67,20 @@ impl BooleanArray {
             values,
             validity,
         })
+    }
+
+    /// The array of parts that fit together: a mask has one bit a value, and the type is stored as bits.
+    ///
+    /// Takes no memory.
+    pub fn new(dtype: ArrowDataType, values: Bitmap, validity: Option<Bitmap>) -> BooleanArray
+        requires fits { MaskFits validity (count values.bits) }
+        requires stored { physical_of (seen dtype) ≡ Some physical.Boolean }
+        ensures { result ≡ record { dtype = dtype; values = values; mask = validity } }
+    {
+        match BooleanArray::try_new(dtype, values, validity) {
+            Ok(array) => array,
+            Err(_) => unreachable!(),
+        }
     }
 
     /// The whole type, extensions included.

@@ -1,5 +1,7 @@
 //! Arrays of fixed-width values under a mask.
 ghost use Rattle.std.specs.Prelude.{◌≡◌, ◌+◌, ◌<◌, ◌≤◌, length as count, slice_get, not, Some, MatchResult, IfOk};
+ghost use Rattle.arrow_types.specs.Seen.{seen};
+ghost use Rattle.arrow_types.specs.Types.{physical_of};
 ghost use Rattle.arrow_types.specs.declared.datatype.PhysicalType.TheVariants as physical;
 ghost use Rattle.arrow_flat.specs.Primitives.{MaskFits, IsSound};
 
@@ -67,6 +69,24 @@ impl<T: NativeType> PrimitiveArray<T> {
             values,
             validity,
         })
+    }
+
+    /// The array of parts that fit together: a mask has one bit a value, and the type is stored as T.
+    ///
+    /// Takes no memory.
+    pub fn new(
+        dtype: ArrowDataType,
+        values: Buffer<T>,
+        validity: Option<Bitmap>,
+    ) -> PrimitiveArray<T>
+        requires fits { MaskFits validity (count values) }
+        requires stored { physical_of (seen dtype) ≡ Some (physical.Primitive T.PRIMITIVE) }
+        ensures { result ≡ record { dtype = dtype; values = values; mask = validity } }
+    {
+        match PrimitiveArray::try_new(dtype, values, validity) {
+            Ok(array) => array,
+            Err(_) => unreachable!(),
+        }
     }
 
     /// The whole type, extensions included.

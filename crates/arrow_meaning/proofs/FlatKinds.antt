@@ -1,5 +1,5 @@
 -- The form of a type that is stored in a flat layout.
-use Rattle.std.proofs.Common.{Bool, None, Option, Some, ap, cond, false, refl, true, ℕ, ◌∙◌, ◌≡◌, sym, subst}
+use Rattle.std.proofs.Common.{Bool, None, Some, ap, cond, false, refl, true, ℕ, ◌∙◌, ◌≡◌, sym, subst}
 use Rattle.std.specs.Prelude.{⊤}
 use Rattle.arrow_types.specs.TypeData.{TypeData}
 use Rattle.arrow_types.specs.TypeData as T
@@ -8,7 +8,7 @@ use Rattle.arrow_types.specs.declared.datatype.PhysicalType.{PhysicalType}
 use Rattle.arrow_types.specs.declared.datatype.PhysicalType.TheVariants as physical
 use Rattle.arrow_bytes.specs.FixedSizeBinaries.{size_of}
 use Rattle.arrow_meaning.specs.Forms.{Form, binaries_of, booleans_of, dictionaries_of, fixed_size_binaries_of, fixed_size_lists_of, form_of, lists_of, no_form, nulls_of, primitives_of, structs_of, unions_of, views_of}
-use Rattle.arrow_meaning.proofs.Physical.{list_kind, binary_kind, physical_by, physical-by}
+use Rattle.arrow_meaning.proofs.Physical.{list_kind, physical_by, physical-by}
 
 -- the physical types of which the form is known
 abbrev pub IsFlatKind : PhysicalType → Type 0

@@ -1,6 +1,6 @@
 -- Flat arrays as layouts: well formed, cut, and under another mask.
 use Rattle.std.proofs.Common.{◌≡◌, ◌+◌, ◌-◌, ◌*◌, ◌/◌, ◌%◌, ◌^◌, ◌<◌, ◌≤◌, ℕ, zero, suc, Bool, true, false, cond, List, [], ◌∷◌, length, map, take, drop, refl, ap, sym, ◌∙◌, subst, arith, Option, Some, None}
-use Rattle.std.specs.Prelude.{ℤ, pos, negsuc, pred, ◌≤ℤ◌, ◌<ℤ◌}
+use Rattle.std.specs.Prelude.{ℤ, pos, negsuc, pred, ◌≤ℤ◌}
 use Rattle.std.specs.List.{AllByRecursion, list_all}
 use Rattle.std.proofs.lemmas.Int.{ints}
 use Rattle.std.proofs.lemmas.List.{take-map, drop-map, length-map}
@@ -20,21 +20,21 @@ use Rattle.arrow_flat.specs.Booleans.{Booleans}
 use Rattle.arrow_flat.specs.Booleans as bools
 use Rattle.arrow_flat.specs.Natives.{octets}
 use Rattle.arrow_flat.specs.Pieces.{pieces, AreTexts}
-use Rattle.arrow_flat.specs.Primitives.{Primitives, MaskFits as MaskCovers, IsLed, IsArray}
+use Rattle.arrow_flat.specs.Primitives.{Primitives, MaskFits as MaskCovers, IsArray}
 use Rattle.arrow_flat.specs.Primitives as flat
 use Rattle.arrow_flat.proofs.Pieces.{span_within, whole_count}
 use Rattle.arrow_bytes.specs.Binaries.{Binaries}
 use Rattle.arrow_bytes.specs.Binaries as bytes
 use Rattle.arrow_bytes.specs.FixedSizeBinaries.{FixedSizeBinaries, count_of}
 use Rattle.arrow_bytes.specs.FixedSizeBinaries as sized
-use Rattle.arrow_meaning.specs.Cut.{part, if_needed, cut_mask, cut}
-use Rattle.arrow_meaning.specs.Forms.{Form, form_of, booleans_of, primitives_of, binaries_of, fixed_size_binaries_of, views_of, offset_limit, large_by, text_by}
+use Rattle.arrow_meaning.specs.Cut.{part, cut_mask, cut}
+use Rattle.arrow_meaning.specs.Forms.{form_of, booleans_of, binaries_of, views_of, large_by, text_by}
 use Rattle.arrow_views.specs.ViewArrays.{ViewArray, AreTextsIf, values_in}
 use Rattle.arrow_views.specs.ViewArrays as viewed
 use Rattle.arrow_meaning.specs.Layouts.{booleans, primitives, binaries, fixed_size_binaries, views}
 use Rattle.arrow_meaning.specs.Nodes.{boolean_layout, primitive_layout, binary_layout, fixed_size_binary_layout, view_layout}
 use Rattle.arrow_meaning.specs.SlotsOf.{IsTextIf, AreBytes}
-use Rattle.arrow_meaning.specs.WellFormed.{MaskFits, IsColumn, WellFormed, AreOffsets, AreOffsetsTo, AscendTo}
+use Rattle.arrow_meaning.specs.WellFormed.{IsColumn, WellFormed, AreOffsets, AscendTo}
 use Rattle.arrow_meaning.proofs.FlatKinds.{flat_form, sized_form}
 use Rattle.arrow_meaning.proofs.Octets.{are_octets, octets_count, texts_of_octets}
 use Rattle.arrow_meaning.proofs.Physical.{binary_kind}

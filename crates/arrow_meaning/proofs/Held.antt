@@ -4,7 +4,7 @@ use Rattle.arrow_types.specs.declared.datatype.PrimitiveType.{PrimitiveType}
 use Rattle.arrow_types.specs.declared.datatype.PrimitiveType.TheVariants as primitive
 use Rattle.arrow_meaning.specs.declared.primitive.PrimitiveNode.{PrimitiveNode}
 use Rattle.arrow_meaning.specs.declared.primitive.PrimitiveNode.TheVariants as array
-use Rattle.arrow_meaning.specs.Forms.{form_of, primitives_of}
+use Rattle.arrow_meaning.specs.Forms.{primitives_of}
 use Rattle.arrow_meaning.specs.Layouts.{Layout, primitives}
 use Rattle.arrow_meaning.specs.Nodes.{Holds, number_of, numbers_of}
 

@@ -1,7 +1,7 @@
 -- Worked examples: the text and the size of columns.
 use Rattle.std.specs.Prelude.{◌≡◌, ℤ, pos, negsuc, true, false, List, [], ◌∷◌, Some, None, codes, refl}
 use Rattle.std.specs.Fmt.{digits}
-use Rattle.arrow_types.specs.TypeData.{TypeData, FieldData, FieldList, no_fields, and_field}
+use Rattle.arrow_types.specs.TypeData.{FieldData, FieldList, no_fields, and_field}
 use Rattle.arrow_types.specs.TypeData as T
 use Rattle.arrow_types.specs.declared.datatype.IntegerType.TheVariants.{Int8}
 use Rattle.arrow_types.specs.declared.datatype.IntervalUnit.TheVariants.{DayTime}

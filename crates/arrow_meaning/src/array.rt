@@ -1,6 +1,5 @@
 //! Arrays of any layout.
 ghost use Rattle.std.specs.Prelude.{◌≡◌, ◌+◌, ◌-◌, ◌<◌, ◌≤◌, true, false, not, IfOk, IfErr, OnOk, OnErr, MatchOption, Decides, Option};
-ghost use Rattle.arrow_buffers.specs.Bits.{Bits};
 ghost use Rattle.arrow_types.specs.Seen.{seen};
 ghost use Rattle.arrow_flat.specs.Primitives.{MaskFits, seen_mask};
 ghost use Rattle.arrow_meaning.specs.Cut.{cut};
@@ -9,7 +8,7 @@ ghost use Rattle.arrow_meaning.specs.Layouts.{length_of, type_of};
 ghost use Rattle.arrow_meaning.specs.Masks.{with_mask, KeysInRange, null_count_of, valid_in};
 ghost use Rattle.arrow_meaning.specs.Refusals.{IsUnion, MaskRefused};
 ghost use Rattle.arrow_meaning.specs.WellFormed.{WellFormed};
-ghost use Rattle.arrow_meaning.specs.Nodes.{IsBooleans, Holds, HoldsBytes, HoldsViews, IsFixedSizeBinaries, IsSoundNode, layout_of, numbers_of, boolean_layout, primitive_layout, binary_layout, fixed_size_binary_layout, view_layout};
+ghost use Rattle.arrow_meaning.specs.Nodes.{IsBooleans, Holds, HoldsBytes, HoldsViews, IsFixedSizeBinaries, IsSoundNode, layout_of, boolean_layout, primitive_layout, binary_layout, fixed_size_binary_layout, view_layout};
 
 use crate::{Node, NodeNative, NodeOffset, NodeView};
 use arrow_buffers::Bitmap;

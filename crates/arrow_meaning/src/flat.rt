@@ -1,13 +1,12 @@
 //! Flat arrays as layouts: what each kind keeps, its part, and the same values under another mask.
-ghost use Rattle.std.specs.Prelude.{◌≡◌, ◌+◌, ◌≤◌, ◌^◌, length as count, true, false, IfOk, Option, Some};
-ghost use Rattle.arrow_buffers.specs.Bits.{Bits};
+ghost use Rattle.std.specs.Prelude.{◌≡◌, ◌+◌, ◌≤◌, length as count, true, false, IfOk, Option, Some};
 ghost use Rattle.arrow_types.specs.Seen.{seen};
 ghost use Rattle.arrow_flat.specs.Primitives.{MaskFits, HasRange, seen_mask};
 ghost use Rattle.arrow_meaning.specs.Cut.{cut, cut_mask};
 ghost use Rattle.arrow_meaning.specs.Forms.{form_of, booleans_of, primitives_of, binaries_of, fixed_size_binaries_of, views_of};
-ghost use Rattle.arrow_meaning.specs.Layouts.{length_of, type_of};
+ghost use Rattle.arrow_meaning.specs.Layouts.{length_of};
 ghost use Rattle.arrow_meaning.specs.Masks.{with_mask};
-ghost use Rattle.arrow_meaning.specs.Nodes.{IsBooleans, Holds, HoldsBytes, IsFixedSizeBinaries, boolean_layout, primitive_layout, binary_layout, fixed_size_binary_layout, view_layout};
+ghost use Rattle.arrow_meaning.specs.Nodes.{boolean_layout, primitive_layout, binary_layout, fixed_size_binary_layout, view_layout};
 ghost use Rattle.arrow_meaning.specs.WellFormed.{WellFormed};
 
 use crate::SizedOffset;

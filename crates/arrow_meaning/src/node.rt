@@ -1,6 +1,5 @@
 //! One array with its parts, a variant for each layout.
 ghost use Rattle.std.specs.Prelude.{◌≡◌, ◌+◌, ◌≤◌, IfOk, Option};
-ghost use Rattle.arrow_buffers.specs.Bits.{Bits};
 ghost use Rattle.arrow_types.specs.Seen.{seen};
 ghost use Rattle.arrow_flat.specs.Primitives.{MaskFits, seen_mask};
 ghost use Rattle.arrow_meaning.specs.Cut.{cut};

@@ -1,11 +1,9 @@
 //! Primitive arrays of any native type, as one kind of node.
 ghost use Rattle.std.specs.Prelude.{◌≡◌, ◌+◌, ◌≤◌, map, length as count, MatchOption, IfOk, Option};
-ghost use Rattle.arrow_buffers.specs.Bits.{Bits};
 ghost use Rattle.arrow_types.specs.Seen.{seen};
 ghost use Rattle.arrow_flat.specs.Primitives.{seen_mask, MaskFits};
 ghost use Rattle.arrow_meaning.specs.Cut.{cut};
 ghost use Rattle.arrow_meaning.specs.Denote.{validity_of};
-ghost use Rattle.arrow_meaning.specs.Forms.{form_of, primitives_of};
 ghost use Rattle.arrow_meaning.specs.Layouts.{length_of, type_of};
 ghost use Rattle.arrow_meaning.specs.Masks.{with_mask};
 ghost use Rattle.arrow_meaning.specs.Nodes.{Holds, number_of, numbers_of, primitive_layout};

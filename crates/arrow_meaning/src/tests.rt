@@ -1,8 +1,8 @@
 // Arrays made, lent, shared, cut and masked.
 use crate::{ArrayRef, Node, NodeNative, NodeOffset, PrimitiveNode};
 use arrow_buffers::{Bitmap, Buffer, Offsets};
-use arrow_bytes::{BinaryArray, Utf8Array};
-use arrow_flat::{BooleanArray, PrimitiveArray, TryClone};
+use arrow_bytes::Utf8Array;
+use arrow_flat::{PrimitiveArray, TryClone};
 use arrow_types::{ArrowDataType, Mem};
 use std::alloc::Global;
 use std::test::Fail;

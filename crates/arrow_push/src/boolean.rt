@@ -1,12 +1,11 @@
 //! The builder of bits.
-ghost use Rattle.std.specs.Prelude.{◌≡◌, length as count, Some};
+ghost use Rattle.std.specs.Prelude.{◌≡◌, Some};
 ghost use Rattle.std.specs.Coded.{codes};
 ghost use Rattle.std.proofs.Props.{props};
 ghost use Rattle.arrow_types.specs.Seen.{seen as type_of};
 ghost use Rattle.arrow_types.specs.Types.{physical_of};
 ghost use Rattle.arrow_types.specs.declared.datatype.PhysicalType.TheVariants as physical;
 ghost use Rattle.arrow_types.specs.contracts.datatype.PhysicalType as physical_type;
-ghost use Rattle.arrow_flat.specs.Primitives.{MaskFits};
 
 use crate::mask::push_bits;
 use crate::{FreshValues, MaskedBuilder, SolidValues, TryPush, ValuesBuilder, ValuesLaws};
@@ -91,6 +90,7 @@ impl ValuesBuilder for BooleanValues {
     }
 
     fn shrink_to_fit(&mut self) -> Mem<()> {
+        self.values.shrink_to_fit();
         Ok(())
     }
 
@@ -98,7 +98,7 @@ impl ValuesBuilder for BooleanValues {
         let values = std::mem::replace(&mut self.values, MutableBitmap::new(self.alloc));
         let dtype = self.dtype.try_clone(self.alloc)?;
         let values = values.freeze()?;
-        Ok(fitted(dtype, values, validity))
+        Ok(BooleanArray::new(dtype, values, validity))
     }
 }
 
@@ -139,16 +139,4 @@ impl SolidValues<bool> for BooleanValues {
     ghost solid = { λ x y e. ap is_valid e };
 
     ghost solid_begun = { λ x y e. ap is_valid e };
-}
-
-/// The array of parts whose mask fits.
-fn fitted(dtype: ArrowDataType, values: Bitmap, validity: Option<Bitmap>) -> BooleanArray
-    requires fits { MaskFits validity (count values.bits) }
-    requires stored { physical_of (type_of dtype) ≡ Some physical.Boolean }
-    ensures { result ≡ record { dtype = dtype; values = values; mask = validity } }
-{
-    match BooleanArray::try_new(dtype, values, validity) {
-        Ok(array) => array,
-        Err(_) => unreachable!(),
-    }
 }

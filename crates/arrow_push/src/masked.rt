@@ -4,7 +4,7 @@ ghost use Rattle.std.proofs.Props.{props};
 ghost use Rattle.arrow_flat.specs.SlotCode.{slot_code};
 ghost use Rattle.arrow_push.specs.Masks.{with_nulls, count_or, all_filled};
 
-use crate::mask::{extend_mask, freeze_mask, push_bit, reserve_mask, truncate_mask};
+use crate::mask::{extend_mask, freeze_mask, push_bit, reserve_mask, shrink_mask, truncate_mask};
 use crate::{
     FreshValues, SolidValues, TryExtend, TryExtendFromSelf, TryPush, ValuesBuilder, push_each,
 };
@@ -141,7 +141,7 @@ impl<V: ValuesBuilder> MaskedBuilder<V> {
         truncate_mask(&mut self.validity, len);
     }
 
-    /// Makes room for `additional` slots more.
+    /// Makes room for `additional` slots more, where these are byte strings or texts of a byte each.
     pub fn reserve(&mut self, additional: usize) -> Mem<()>
         ensures { built_under V.blank (V.seen self.new.values) self.new.validity ≡ built_under V.blank (V.seen self.old.values) self.old.validity }
     {
@@ -149,10 +149,11 @@ impl<V: ValuesBuilder> MaskedBuilder<V> {
         reserve_mask(&mut self.validity, additional)
     }
 
-    /// Gives room that no value needs back.
+    /// Gives room back that no slot needs.
     pub fn shrink_to_fit(&mut self) -> Mem<()>
         ensures { built_under V.blank (V.seen self.new.values) self.new.validity ≡ built_under V.blank (V.seen self.old.values) self.old.validity }
     {
+        shrink_mask(&mut self.validity);
         self.values.shrink_to_fit()
     }
 

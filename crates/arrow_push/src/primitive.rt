@@ -1,5 +1,5 @@
 //! The builder of values of one width.
-ghost use Rattle.std.specs.Prelude.{◌≡◌, length as count, Some};
+ghost use Rattle.std.specs.Prelude.{◌≡◌, Some};
 ghost use Rattle.std.specs.Coded.{codes};
 ghost use Rattle.std.proofs.Props.{props};
 ghost use Rattle.arrow_types.specs.Seen.{seen as type_of};
@@ -7,7 +7,6 @@ ghost use Rattle.arrow_types.specs.Types.{physical_of, primitive_type};
 ghost use Rattle.arrow_types.specs.declared.datatype.PhysicalType.TheVariants as physical;
 ghost use Rattle.arrow_types.specs.contracts.datatype.PhysicalType as physical_type;
 ghost use Rattle.arrow_flat.specs.Natives.{IsNative};
-ghost use Rattle.arrow_flat.specs.Primitives.{MaskFits};
 
 use crate::{FreshValues, MaskedBuilder, SolidValues, TryPush, ValuesBuilder, ValuesLaws};
 use arrow_buffers::{Bitmap, Buffer};
@@ -99,7 +98,7 @@ impl<T: NativeType> ValuesBuilder for PrimitiveValues<T> {
         let values = std::mem::replace(&mut self.values, Vec::new(alloc));
         let dtype = self.dtype.try_clone(alloc)?;
         let values = Buffer::from_vec(alloc, values)?;
-        Ok(fitted(dtype, values, validity))
+        Ok(PrimitiveArray::new(dtype, values, validity))
     }
 }
 
@@ -150,21 +149,5 @@ fn plain_type(primitive: PrimitiveType) -> ArrowDataType
     match ArrowDataType::from_primitive(primitive) {
         Some(dtype) => dtype,
         None => unreachable!(),
-    }
-}
-
-/// The array of parts whose mask fits.
-fn fitted<T: NativeType>(
-    dtype: ArrowDataType,
-    values: Buffer<T>,
-    validity: Option<Bitmap>,
-) -> PrimitiveArray<T>
-    requires fits { MaskFits validity (count values) }
-    requires stored { physical_of (type_of dtype) ≡ Some (physical.Primitive T.PRIMITIVE) }
-    ensures { result ≡ record { dtype = dtype; values = values; mask = validity } }
-{
-    match PrimitiveArray::try_new(dtype, values, validity) {
-        Ok(array) => array,
-        Err(_) => unreachable!(),
     }
 }

@@ -1,6 +1,5 @@
 //! Builders of values without nulls, over which a mask may stand.
-ghost use Rattle.std.specs.Prelude.{◌≡◌, ◌≤◌, [], ◌∷◌, true, List, length, take, MatchResult, IfOk, OnOk, IsTrue};
-ghost use Rattle.arrow_buffers.specs.Bits.{Bits};
+ghost use Rattle.std.specs.Prelude.{◌≡◌, ◌≤◌, [], ◌∷◌, true, List, length, take, MatchResult, IfOk, IsTrue};
 ghost use Rattle.arrow_types.specs.TypeData.{TypeData};
 ghost use Rattle.arrow_types.specs.Seen.{seen};
 ghost use Rattle.arrow_flat.specs.Slots.{Slot, is_valid};
@@ -45,7 +44,7 @@ pub trait ValuesBuilder: ValuesLaws {
     fn len(&self) -> usize
         ensures { result ≡ length (Self.seen self.now).slots };
 
-    /// The memory that the builder was given.
+    /// The memory that the builder grows in.
     fn allocator(&self) -> Global;
 
     /// Appends the value that stands in a null's place.
@@ -65,11 +64,11 @@ pub trait ValuesBuilder: ValuesLaws {
         ensures slots { (Self.seen self.new).slots ≡ take len (Self.seen self.old).slots }
         ensures kind { (Self.seen self.new).dtype ≡ (Self.seen self.old).dtype };
 
-    /// Makes room for `additional` values more.
+    /// Makes room for `additional` values more, where these are byte strings or texts of a byte each.
     fn reserve(&mut self, additional: usize) -> Mem<()>
         ensures { Self.seen self.new ≡ Self.seen self.old };
 
-    /// Gives room that no value needs back.
+    /// Gives room back that no value needs.
     fn shrink_to_fit(&mut self) -> Mem<()>
         ensures { Self.seen self.new ≡ Self.seen self.old };
 

@@ -12,7 +12,7 @@ use Rattle.arrow_flat.specs.Pieces.{chunks}
 use Rattle.arrow_flat.specs.Slots.{Slot, bytes}
 use Rattle.arrow_flat.specs.Built.{Takes, Keeps}
 use Rattle.arrow_flat.proofs.Pieces.{chunk_count, whole_count, whole_multiple}
-use Rattle.arrow_bytes.specs.FixedSizeBinaries.{size_of}
+use Rattle.arrow_bytes.specs.FixedSizeBinaries.{size_of, size_or_zero}
 use Rattle.arrow_push_bytes.specs.SizedBytes.{sized_strings, width_refusal, built_sized, zeros_of}
 
 -- ---- whole multiples
@@ -171,6 +171,9 @@ zeros_multiple k total n bs more false p e l t m = ap (λ (zs : List ℕ). lengt
 
 pub zeros_are : (t : TypeData) (k : ℕ) → size_of t ≡ Some k → bytes (replicate k 0) ≡ zeros_of t
 zeros_are t k e = ap (λ o. bytes (replicate (unwrap_or o 0) 0)) (sym e)
+
+pub known_size : (s t : TypeData) (k : ℕ) → s ≡ t → size_of t ≡ Some k → size_or_zero s ≡ k
+known_size s t k e h = ap size_or_zero e ∙ ap (λ o. unwrap_or o 0) h
 
 -- two types that are the same declare the same size
 pub same_size : (s t : TypeData) (j k : ℕ) → s ≡ t → size_of s ≡ Some j → size_of t ≡ Some k → j ≡ k

@@ -1,10 +1,12 @@
 -- Strings one behind another, and the offsets and bytes that hold them.
 use Rattle.std.proofs.Common.{◌≡◌, ℕ, zero, suc, ◌+◌, ◌-◌, ◌≤◌, ℤ, pos, List, [], ◌∷◌, ◌++◌, map, length, take, drop, refl, ap, sym, ◌∙◌, subst, arith}
-use Rattle.std.proofs.lemmas.List.{append_assoc, length-append, length-map, take-map}
+use Rattle.std.specs.List.{concat}
+use Rattle.std.proofs.lemmas.List.{append_assoc, append-nil, length-append, length-map, take-map}
+use Rattle.std.proofs.lemmas.List.Folds.{concat-append}
 use Rattle.std.proofs.Math.Seq.{take-append_seam, drop-append_seam, take-append-add}
 use Rattle.arrow_buffers.specs.Offsets.{to_nat, end_from, end_of, ends}
 use Rattle.arrow_flat.specs.Pieces.{pieces_from, pieces}
-use Rattle.arrow_push_bytes.specs.Strings.{joined, total_of, borders, AreStrings}
+use Rattle.arrow_push_bytes.specs.Strings.{total_of, borders, AreStrings}
 
 -- ---- sums
 
@@ -15,20 +17,12 @@ total_append (x ∷ xs) ys = let q = total_append xs ys in omega arith
 pub total_push : (xs : List (List ℕ)) (v : List ℕ) → total_of (xs ++ v ∷ []) ≡ total_of xs + length v
 total_push xs v = let q : total_of (xs ++ v ∷ []) ≡ total_of xs + (length v + 0) = total_append xs (v ∷ []) in omega arith
 
-pub joined_append : (xs ys : List (List ℕ)) → joined (xs ++ ys) ≡ joined xs ++ joined ys
-joined_append [] ys = refl
-joined_append (x ∷ xs) ys = ap (λ zs. x ++ zs) (joined_append xs ys) ∙ sym (append_assoc x (joined xs) (joined ys))
+joined_push : (xs : List (List ℕ)) (v : List ℕ) → concat (xs ++ v ∷ []) ≡ concat xs ++ v
+joined_push xs v = concat-append xs (v ∷ []) ∙ ap (λ zs. concat xs ++ zs) (append-nil v)
 
-nothing_behind : (v : List ℕ) → v ++ [] ≡ v
-nothing_behind [] = refl
-nothing_behind (x ∷ v) = ap (λ zs. x ∷ zs) (nothing_behind v)
-
-joined_push : (xs : List (List ℕ)) (v : List ℕ) → joined (xs ++ v ∷ []) ≡ joined xs ++ v
-joined_push xs v = joined_append xs (v ∷ []) ∙ ap (λ zs. joined xs ++ zs) (nothing_behind v)
-
-pub joined_length : (xs : List (List ℕ)) → length (joined xs) ≡ total_of xs
+pub joined_length : (xs : List (List ℕ)) → length (concat xs) ≡ total_of xs
 joined_length [] = refl
-joined_length (x ∷ xs) = length-append x (joined xs) ∙ ap (λ n. length x + n) (joined_length xs)
+joined_length (x ∷ xs) = length-append x (concat xs) ∙ ap (λ n. length x + n) (joined_length xs)
 
 -- ---- borders
 
@@ -70,25 +64,25 @@ borders_take n xs =
     let q : n + 1 ≡ suc n = omega arith in
     ap (λ k. take k (borders xs)) q ∙ ap (λ os. pos 0 ∷ os) (ends_take 0 n xs)
 
-joined_take : (n : ℕ) (xs : List (List ℕ)) → take (total_of (take n xs)) (joined xs) ≡ joined (take n xs)
+joined_take : (n : ℕ) (xs : List (List ℕ)) → take (total_of (take n xs)) (concat xs) ≡ concat (take n xs)
 joined_take zero xs = refl
 joined_take (suc n) [] = refl
-joined_take (suc n) (x ∷ xs) = take-append-add x (joined xs) (total_of (take n xs)) ∙ ap (λ zs. x ++ zs) (joined_take n xs)
+joined_take (suc n) (x ∷ xs) = take-append-add x (concat xs) (total_of (take n xs)) ∙ ap (λ zs. x ++ zs) (joined_take n xs)
 
 -- ---- the pieces between the borders of strings are the strings
 
 pieces_joined : (a : ℕ) (front : List ℕ) (xs : List (List ℕ)) → length front ≡ a
-    → pieces_from a (map to_nat (ends a (map length xs))) (front ++ joined xs) ≡ xs
+    → pieces_from a (map to_nat (ends a (map length xs))) (front ++ concat xs) ≡ xs
 pieces_joined a front [] e = refl
 pieces_joined a front (x ∷ xs) e =
-    let all = front ++ (x ++ joined xs) in
+    let all = front ++ (x ++ concat xs) in
     let later = map to_nat (ends (a + length x) (map length xs)) in
     let n : a + length x - a ≡ length x = omega arith in
     let here : take (a + length x - a) (drop a all) ≡ x =
     ap (λ k. take k (drop a all)) n ∙ ap (λ k. take (length x) (drop k all)) (sym e)
-    ∙ ap (λ ys. take (length x) ys) (drop-append_seam front (x ++ joined xs)) ∙ take-append_seam x (joined xs) in
+    ∙ ap (λ ys. take (length x) ys) (drop-append_seam front (x ++ concat xs)) ∙ take-append_seam x (concat xs) in
     let rest : pieces_from (a + length x) later all ≡ xs =
-    ap (λ ys. pieces_from (a + length x) later ys) (sym (append_assoc front x (joined xs)))
+    ap (λ ys. pieces_from (a + length x) later ys) (sym (append_assoc front x (concat xs)))
     ∙ pieces_joined (a + length x) (front ++ x) xs (length-append front x ∙ ap (λ k. k + length x) e) in
     ap (λ y. y ∷ pieces_from (a + length x) later all) here ∙ ap (λ ys. x ∷ ys) rest
 

@@ -1,6 +1,5 @@
 -- What builders of byte strings of one size stand for.
 use Rattle.std.specs.Prelude.{ℕ, ◌/◌, nat_eq, true, cond, List, [], ◌∷◌, map, length, replicate, Option, Some, None}
-use Rattle.std.specs.Option.{unwrap_or}
 use Rattle.arrow_types.specs.Seen.{seen}
 use Rattle.arrow_types.specs.TypeData.{TypeData}
 use Rattle.arrow_types.specs.declared.error.PolarsError.{PolarsError}
@@ -9,7 +8,7 @@ use Rattle.arrow_types.specs.declared.error.Reason.TheVariants.{WrongWidth}
 use Rattle.arrow_flat.specs.Pieces.{chunks}
 use Rattle.arrow_flat.specs.Slots.{Slot, bytes}
 use Rattle.arrow_flat.specs.Built.{Built}
-use Rattle.arrow_bytes.specs.FixedSizeBinaries.{FixedSizeBinaries, size_of, slots}
+use Rattle.arrow_bytes.specs.FixedSizeBinaries.{FixedSizeBinaries, size_or_zero, slots}
 use Rattle.arrow_push.specs.Items.{slot_or_null}
 use Rattle.arrow_push.specs.Masks.{Finished}
 
@@ -34,7 +33,7 @@ built_sized k t bs = record {
 
 -- Zeros, as many as the type says.
 abbrev pub zeros_of : TypeData → Slot
-zeros_of t = bytes (replicate (unwrap_or (size_of t) 0) 0)
+zeros_of t = bytes (replicate (size_or_zero t) 0)
 
 -- What an array of byte strings of one size stands for.
 abbrev pub shown_sized : FixedSizeBinaries → Finished

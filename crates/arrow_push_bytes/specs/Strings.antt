@@ -1,11 +1,7 @@
 -- Byte strings that stand one behind another.
-use Rattle.std.specs.Prelude.{◌≡◌, ℕ, ◌+◌, ℤ, pos, List, [], ◌∷◌, ◌++◌, length, map}
+use Rattle.std.specs.Prelude.{◌≡◌, ℕ, ◌+◌, ℤ, pos, List, [], ◌∷◌, length, map}
+use Rattle.std.specs.List.{concat}
 use Rattle.arrow_buffers.specs.Offsets.{ends}
-
--- The bytes of strings, one behind another.
-abbrev pub joined : List (List ℕ) → List ℕ
-joined [] = []
-joined (x ∷ xs) = x ++ joined xs
 
 -- How many bytes strings have together.
 abbrev pub total_of : List (List ℕ) → ℕ
@@ -19,4 +15,4 @@ borders xs = pos 0 ∷ ends 0 (map length xs)
 -- Offsets and bytes are those of strings, with nothing between them or behind the last.
 pub record AreStrings (offsets : List ℤ) (bytes : List ℕ) (xs : List (List ℕ)) : Type 0 where
   pub borders_are : offsets ≡ borders xs
-  pub bytes_are : bytes ≡ joined xs
+  pub bytes_are : bytes ≡ concat xs

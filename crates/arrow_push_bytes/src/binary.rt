@@ -1,17 +1,15 @@
 //! The builder of byte strings.
-ghost use Rattle.std.specs.Prelude.{◌≡◌, ◌≤◌, pred, length as count, map, Some};
+ghost use Rattle.std.specs.Prelude.{◌≡◌, map, Some};
 ghost use Rattle.std.specs.Coded.{codes};
 ghost use Rattle.std.proofs.Props.{props};
-ghost use Rattle.arrow_buffers.specs.Offsets.{end_of};
 ghost use Rattle.arrow_types.specs.Seen.{seen as type_of};
 ghost use Rattle.arrow_types.specs.Types.{physical_of};
 ghost use Rattle.arrow_types.specs.contracts.datatype.PhysicalType as physical_type;
-ghost use Rattle.arrow_flat.specs.Primitives.{MaskFits};
 ghost use Rattle.arrow_bytes.specs.Binaries.{binary_layout};
 ghost use Rattle.arrow_push_bytes.specs.BuiltBytes.{binary_type as plain_binary};
 
 use crate::ByteStrings;
-use arrow_buffers::{Bitmap, Buffer, Offset, OffsetsBuffer};
+use arrow_buffers::{Bitmap, Offset};
 use arrow_bytes::BinaryArray;
 use arrow_flat::Building;
 use arrow_push::{
@@ -118,14 +116,15 @@ impl<O: Offset> ValuesBuilder for MutableBinaryValuesArray<O> {
     }
 
     fn shrink_to_fit(&mut self) -> Mem<()> {
-        self.strings.shrink_to_fit()
+        self.strings.shrink_to_fit();
+        Ok(())
     }
 
     fn finish_under(&mut self, validity: Option<Bitmap>) -> Mem<BinaryArray<O>> {
         let alloc = self.strings.allocator();
         let (offsets, values) = self.strings.finish()?;
         let dtype = self.dtype.try_clone(alloc)?;
-        Ok(fitted(dtype, offsets, values, validity))
+        Ok(BinaryArray::new(dtype, offsets, values, validity))
     }
 }
 
@@ -209,23 +208,5 @@ fn binary_type(is_large: bool) -> ArrowDataType
         ArrowDataType::LargeBinary
     } else {
         ArrowDataType::Binary
-    }
-}
-
-/// The array of parts that fit.
-fn fitted<O: Offset>(
-    dtype: ArrowDataType,
-    offsets: OffsetsBuffer<O>,
-    values: Buffer<u8>,
-    validity: Option<Bitmap>,
-) -> BinaryArray<O>
-    requires within { end_of (map O.number offsets) ≤ count values }
-    requires fits { MaskFits validity (pred (count (map O.number offsets))) }
-    requires stored { physical_of (type_of dtype) ≡ Some (binary_layout O.IS_LARGE) }
-    ensures { result ≡ record { dtype = dtype; offsets = offsets; values = values; mask = validity } }
-{
-    match BinaryArray::try_new(dtype, offsets, values, validity) {
-        Ok(array) => array,
-        Err(_) => unreachable!(),
     }
 }

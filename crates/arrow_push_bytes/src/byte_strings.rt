@@ -1,5 +1,5 @@
 //! Byte strings that grow, one behind another.
-ghost use Rattle.std.specs.Prelude.{◌≡◌, ℕ, ◌⊎◌, ◌+◌, ◌-◌, ◌<◌, ◌≤◌, pos, length as count, [], ◌∷◌, ◌++◌, map, take, drop, slice_get, Some, OnOk, IfOk, IfErr, MatchResult};
+ghost use Rattle.std.specs.Prelude.{◌≡◌, ℕ, ◌⊎◌, ◌+◌, ◌-◌, ◌<◌, ◌≤◌, length as count, [], ◌∷◌, ◌++◌, map, take, drop, slice_get, Some, IfOk, MatchResult};
 ghost use Rattle.arrow_buffers.specs.Offsets.{AreOffsets, to_nat, end_of, IsGrowthRefusal};
 ghost use Rattle.arrow_types.specs.declared.error.PolarsError.TheVariants.{ComputeError, OutOfMemory};
 ghost use Rattle.arrow_types.specs.declared.error.Reason.TheVariants.{LengthOverflow};
@@ -62,7 +62,7 @@ impl<O: Offset> ByteStrings<O> {
         requires { i < count self.now }
         ensures { slice_get self.now i ≡ Some result.now }
     {
-        let (start, end) = bounds_at(self.offsets.as_slice(), i);
+        let (start, end) = self.offsets.start_end(i);
         between(self.bytes.as_slice(), start, end)
     }
 
@@ -131,19 +131,20 @@ impl<O: Offset> ByteStrings<O> {
         self.bytes.truncate(end);
     }
 
-    /// Makes room for `additional` bytes more.
+    /// Makes room for `additional` strings more, of a byte each.
     pub fn reserve(&mut self, additional: usize) -> Mem<()>
         ensures { self.new ≡ self.old }
     {
+        self.offsets.reserve(additional)?;
         self.bytes.reserve(additional)
     }
 
-    /// Gives room that no byte needs back.
-    pub fn shrink_to_fit(&mut self) -> Mem<()>
+    /// Gives room back that no string needs.
+    pub fn shrink_to_fit(&mut self)
         ensures { self.new ≡ self.old }
     {
+        self.offsets.shrink_to_fit();
         self.bytes.shrink_to_fit();
-        Ok(())
     }
 
     /// The offsets and the bytes, to be shared. No string is left, where memory is short too.
@@ -193,26 +194,4 @@ fn between(bytes: &[u8], start: usize, end: usize) -> &[u8]
     ensures { result.now ≡ take (end - start) (drop start bytes.now) }
 {
     &bytes[start..end]
-}
-
-/// Where the slot at `i` begins and ends.
-fn bounds_at<O: Offset>(offsets: &[O], i: usize) -> (usize, usize)
-    requires sound { AreOffsets O.limit (map O.number offsets.now) }
-    requires within { i + 1 < count offsets.now }
-    ensures start { slice_get (map O.number offsets.now) i ≡ Some (pos result.0) }
-    ensures end { slice_get (map O.number offsets.now) (i + 1) ≡ Some (pos result.1) }
-    ensures ordered { result.0 ≤ result.1 }
-    ensures to_end { result.1 ≤ end_of (map O.number offsets.now) }
-{
-    (number_at(offsets, i), number_at(offsets, i + 1))
-}
-
-/// The number of the offset at `i`.
-fn number_at<O: Offset>(offsets: &[O], i: usize) -> usize
-    requires sound { AreOffsets O.limit (map O.number offsets.now) }
-    requires within { i < count offsets.now }
-    ensures value { slice_get (map O.number offsets.now) i ≡ Some (pos result) }
-    ensures to_end { result ≤ end_of (map O.number offsets.now) }
-{
-    offsets[i].to_usize()
 }

@@ -1,10 +1,9 @@
 //! The builder of byte strings of one size.
-ghost use Rattle.std.specs.Prelude.{◌≡◌, ◌%◌, ◌/◌, ◌<◌, ℕ, length as count, Some};
+ghost use Rattle.std.specs.Prelude.{◌≡◌, ◌%◌, ◌/◌, ◌<◌, length as count, Some};
 ghost use Rattle.std.specs.Coded.{codes};
 ghost use Rattle.std.proofs.Props.{props};
 ghost use Rattle.arrow_types.specs.Seen.{seen as type_of};
 ghost use Rattle.arrow_types.specs.TypeData as T;
-ghost use Rattle.arrow_flat.specs.Primitives.{MaskFits};
 ghost use Rattle.arrow_bytes.specs.FixedSizeBinaries.{size_of};
 
 use arrow_buffers::{Bitmap, Buffer};
@@ -137,7 +136,7 @@ impl ValuesBuilder for FixedSizeBinaryValues {
         let values = std::mem::replace(&mut self.values, Vec::new(alloc));
         let dtype = self.dtype.try_clone(alloc)?;
         let values = Buffer::from_vec(alloc, values)?;
-        Ok(fitted(dtype, self.size, values, validity))
+        Ok(FixedSizeBinaryArray::new(dtype, values, validity))
     }
 }
 
@@ -197,24 +196,5 @@ impl TryExtendFromSelf for FixedSizeBinaryValues {
 
     fn try_extend_from_self(&mut self, other: &FixedSizeBinaryValues) -> PolarsResult<()> {
         self.extend_values(other)
-    }
-}
-
-/// The array of parts that fit.
-fn fitted(
-    dtype: ArrowDataType,
-    size: usize,
-    values: Buffer<u8>,
-    validity: Option<Bitmap>,
-) -> FixedSizeBinaryArray
-    requires sized { size_of (type_of dtype) ≡ Some size }
-    requires positive { 0 < size }
-    requires multiple { count values % size ≡ 0 }
-    requires fits { MaskFits validity (count values / size) }
-    ensures { result ≡ record { dtype = dtype; size = size; values = values; mask = validity } }
-{
-    match FixedSizeBinaryArray::try_new(dtype, values, validity) {
-        Ok(array) => array,
-        Err(_) => unreachable!(),
     }
 }

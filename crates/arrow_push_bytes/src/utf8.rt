@@ -1,15 +1,12 @@
 //! The builder of texts.
-ghost use Rattle.std.specs.Prelude.{◌≡◌, ◌≤◌, pred, length as count, map, Some};
-ghost use Rattle.arrow_buffers.specs.Offsets.{to_nat, end_of};
+ghost use Rattle.std.specs.Prelude.{◌≡◌, map, Some};
 ghost use Rattle.arrow_types.specs.Seen.{seen as type_of};
 ghost use Rattle.arrow_types.specs.Types.{physical_of};
-ghost use Rattle.arrow_flat.specs.Pieces.{pieces, AreTexts};
-ghost use Rattle.arrow_flat.specs.Primitives.{MaskFits};
 ghost use Rattle.arrow_bytes.specs.Binaries.{text_layout};
 ghost use Rattle.arrow_push_bytes.specs.BuiltBytes.{text_type as plain_text};
 
 use crate::ByteStrings;
-use arrow_buffers::{Bitmap, Buffer, Offset, OffsetsBuffer};
+use arrow_buffers::{Bitmap, Offset};
 use arrow_bytes::Utf8Array;
 use arrow_flat::Building;
 use arrow_push::{
@@ -131,14 +128,15 @@ impl<O: Offset> ValuesBuilder for MutableUtf8ValuesArray<O> {
     }
 
     fn shrink_to_fit(&mut self) -> Mem<()> {
-        self.strings.shrink_to_fit()
+        self.strings.shrink_to_fit();
+        Ok(())
     }
 
     fn finish_under(&mut self, validity: Option<Bitmap>) -> Mem<Utf8Array<O>> {
         let alloc = self.strings.allocator();
         let (offsets, values) = self.strings.finish()?;
         let dtype = self.dtype.try_clone(alloc)?;
-        Ok(fitted(dtype, offsets, values, validity))
+        Ok(Utf8Array::new(dtype, offsets, values, validity))
     }
 }
 
@@ -222,24 +220,5 @@ fn text_type(is_large: bool) -> ArrowDataType
         ArrowDataType::LargeUtf8
     } else {
         ArrowDataType::Utf8
-    }
-}
-
-/// The array of parts that fit.
-fn fitted<O: Offset>(
-    dtype: ArrowDataType,
-    offsets: OffsetsBuffer<O>,
-    values: Buffer<u8>,
-    validity: Option<Bitmap>,
-) -> Utf8Array<O>
-    requires within { end_of (map O.number offsets) ≤ count values }
-    requires fits { MaskFits validity (pred (count (map O.number offsets))) }
-    requires stored { physical_of (type_of dtype) ≡ Some (text_layout O.IS_LARGE) }
-    requires texts { AreTexts (pieces (map to_nat (map O.number offsets)) values) }
-    ensures { result ≡ record { dtype = dtype; offsets = offsets; values = values; mask = validity } }
-{
-    match Utf8Array::try_new(dtype, offsets, values, validity) {
-        Ok(array) => array,
-        Err(_) => unreachable!(),
     }
 }

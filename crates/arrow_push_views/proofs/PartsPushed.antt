@@ -1,5 +1,5 @@
 -- Values of given lengths that were pushed one by one.
-use Rattle.std.proofs.Common.{◌≡◌, ℕ, zero, suc, ◌+◌, ◌<◌, ◌≤◌, Bool, true, false, cond, List, [], ◌∷◌, ◌++◌, map, length, take, drop, fold, sum, get_or, add-one, refl, ap, sym, ◌∙◌, subst, arith, inl, inr, append_assoc, append-nil, length-drop, Option, Some, None}
+use Rattle.std.proofs.Common.{◌≡◌, ℕ, ◌+◌, ◌≤◌, Bool, true, false, cond, List, [], ◌∷◌, ◌++◌, map, length, take, drop, fold, sum, ap, sym, ◌∙◌, subst, arith, inl, inr, append_assoc, append-nil, length-drop, Option, Some, None}
 use Rattle.std.specs.Prelude.{◌⊎◌}
 use Rattle.std.proofs.lemmas.List.{map-append}
 use Rattle.arrow_types.specs.TypeData.{TypeData}
@@ -30,20 +30,6 @@ pub sum_is : (ns : List ℕ) → sum ns ≡ summed ns
 sum_is ns = fold_sum 0 ns ∙ omega arith
 
 -- ---- what is left of the bytes and the lengths
-
-pub drop_more : (ns : List ℕ) (i : ℕ) → i < length ns → drop i ns ≡ get_or ns i 0 ∷ drop (i + 1) ns
-drop_more ns i l = rw add-one (by ns i l)
-  where
-    by : (ns : List ℕ) (i : ℕ) → i < length ns → drop i ns ≡ get_or ns i 0 ∷ drop (suc i) ns
-    by [] i l = absurd (omega arith)
-    by (n ∷ ns) zero l = refl
-    by (n ∷ ns) (suc i) l = by ns i (omega arith)
-
-pub drop_past : (ns : List ℕ) (i : ℕ) → length ns ≤ i → drop i ns ≡ []
-drop_past [] zero l = refl
-drop_past [] (suc i) l = refl
-drop_past (n ∷ ns) zero l = absurd (omega arith)
-drop_past (n ∷ ns) (suc i) l = drop_past ns i (omega arith)
 
 abbrev pub Left : List ℕ → List ℕ → List (List ℕ) → List (List ℕ) → Type 0
 Left ns bs all us = (all ≡ us ++ parts ns bs) × (summed ns ≡ length bs)

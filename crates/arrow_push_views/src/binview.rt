@@ -1,5 +1,5 @@
 //! The builder of byte strings or texts by views.
-ghost use Rattle.std.specs.Prelude.{◌≡◌, ◌∷◌, [], ◌+◌, ◌≤◌, length as count, cond, Some};
+ghost use Rattle.std.specs.Prelude.{◌≡◌, ◌∷◌, [], ◌≤◌, Some};
 ghost use Rattle.arrow_types.specs.Seen.{seen as type_of};
 ghost use Rattle.arrow_types.specs.Types.{physical_of};
 ghost use Rattle.arrow_flat.specs.Built.{Pushes};
@@ -133,7 +133,8 @@ impl<T: ViewType> ValuesBuilder for ViewValues<T> {
     }
 
     fn shrink_to_fit(&mut self) -> Mem<()> {
-        self.strings.shrink_to_fit()
+        self.strings.shrink_to_fit();
+        Ok(())
     }
 
     fn finish_under(&mut self, validity: Option<Bitmap>) -> Mem<BinaryViewArrayGeneric<T>> {

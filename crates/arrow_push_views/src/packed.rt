@@ -1,13 +1,11 @@
 //! The views of byte strings, and the array of them.
-ghost use Rattle.std.specs.Prelude.{◌≡◌, ◌≤◌, ◌<◌, cond, map, length as count, slice_get, Some, IfOk};
+ghost use Rattle.std.specs.Prelude.{◌≡◌, ◌≤◌, ◌<◌, cond, map, length as count, IfOk};
 ghost use Rattle.std.specs.List.{AllByRecursion};
 ghost use Rattle.arrow_flat.specs.Natives.{octets};
 ghost use Rattle.arrow_flat.specs.Packs.{view_limit, pack, packed_views};
 ghost use Rattle.arrow_flat.specs.Primitives.{MaskFits, masked};
 ghost use Rattle.arrow_flat.specs.Views.{is_short, longs};
-ghost use Rattle.arrow_types.specs.Seen.{seen};
-ghost use Rattle.arrow_types.specs.Types.{physical_of};
-ghost use Rattle.arrow_views.specs.ViewArrays.{view_layout, AreViews, AreTextsIf, values_in, slots};
+ghost use Rattle.arrow_views.specs.ViewArrays.{slots};
 ghost use Rattle.arrow_pack.specs.Packing.{packed_on, packed_view};
 ghost use Rattle.arrow_push_bytes.specs.Strings.{total_of};
 ghost use Rattle.arrow_push_views.specs.ViewsBuilt.{most_bytes, IsPacked, IsSound};
@@ -33,7 +31,7 @@ pub(crate) fn packed_array<T: ViewType>(
     let dtype = dtype.try_clone(alloc)?;
     let (views, buffers) = packed_values(alloc, strings)?;
     let views = Buffer::from_vec(alloc, views)?;
-    Ok(fitted(dtype, views, buffers, validity))
+    Ok(BinaryViewArrayGeneric::new(dtype, views, buffers, validity))
 }
 
 /// The views of byte strings, and the buffers of the long ones: those of more than twelve bytes stand behind one another in their
@@ -75,22 +73,3 @@ fn packed_value(packer: &mut ViewPacker, value: &[u8]) -> Mem<View>
 fn know_bytes(bytes: &[u8])
     ensures { octets bytes.now ≡ bytes.now }
 {}
-
-/// The array of parts that fit.
-fn fitted<T: ViewType>(
-    dtype: ArrowDataType,
-    views: Buffer<View>,
-    buffers: Vec<Buffer<u8>>,
-    validity: Option<Bitmap>,
-) -> BinaryViewArrayGeneric<T>
-    requires fits { MaskFits validity (count views) }
-    requires stored { physical_of (seen dtype) ≡ Some (view_layout T.IS_TEXT) }
-    requires placed { AreViews (map octets buffers.items) views }
-    requires texts { AreTextsIf T.IS_TEXT (values_in (map octets buffers.items) views) }
-    ensures { result ≡ record { dtype = dtype; views = views; buffers = map octets buffers.items; mask = validity } }
-{
-    match BinaryViewArrayGeneric::try_new(dtype, views, buffers, validity) {
-        Ok(array) => array,
-        Err(_) => unreachable!(),
-    }
-}

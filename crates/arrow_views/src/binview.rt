@@ -1,8 +1,10 @@
 //! Arrays of byte strings or texts by views, under a mask.
 ghost use Rattle.std.specs.Prelude.{◌≡◌, ◌+◌, ◌<◌, ◌≤◌, length as count, map, slice_get, not, Some, MatchOption, MatchResult, IfOk};
+ghost use Rattle.arrow_types.specs.Seen.{seen};
+ghost use Rattle.arrow_types.specs.Types.{physical_of};
 ghost use Rattle.arrow_flat.specs.Natives.{octets};
 ghost use Rattle.arrow_flat.specs.Primitives.{MaskFits, valid_at, unset_in, seen_mask};
-ghost use Rattle.arrow_views.specs.ViewArrays.{IsSound, RefusedFor, Refused, values_of, cut, half};
+ghost use Rattle.arrow_views.specs.ViewArrays.{IsSound, RefusedFor, Refused, view_layout, AreViews, AreTextsIf, values_in, values_of, cut, half};
 
 use crate::check::are_views;
 use crate::stored::is_stored_as_views;
@@ -80,6 +82,35 @@ impl<T: ViewType> BinaryViewArrayGeneric<T> {
             validity,
             kind: PhantomData,
         })
+    }
+
+    /// The array of parts that fit together: a mask has one bit a view, the type is stored so, each view stands for a value in the
+    /// buffers, and for texts the bytes of each slot, a null or not, are UTF-8.
+    ///
+    /// Takes no memory, and looks at no byte.
+    pub fn new(
+        dtype: ArrowDataType,
+        views: Buffer<View>,
+        buffers: Vec<Buffer<u8>>,
+        validity: Option<Bitmap>,
+    ) -> BinaryViewArrayGeneric<T>
+        requires fits { MaskFits validity (count views) }
+        requires stored { physical_of (seen dtype) ≡ Some (view_layout T.IS_TEXT) }
+        requires placed { AreViews (map octets buffers.items) views }
+        requires texts { AreTextsIf T.IS_TEXT (values_in (map octets buffers.items) views) }
+        ensures { result ≡ record { dtype = dtype; views = views; buffers = map octets buffers.items; mask = validity } }
+    {
+        know_led(&validity);
+        if !is_stored_as_views(&dtype, T::IS_TEXT) {
+            unreachable!();
+        }
+        BinaryViewArrayGeneric {
+            dtype,
+            views,
+            buffers,
+            validity,
+            kind: PhantomData,
+        }
     }
 
     /// The whole type, extensions included.

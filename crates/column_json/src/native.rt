@@ -1,8 +1,7 @@
 //! The values of primitive arrays as JSON values.
-ghost use Rattle.std.specs.Prelude.{◌≡◌, [], ◌∷◌, IfOk};
-ghost use Rattle.std.specs.Int.{w32, int_wrap};
+ghost use Rattle.std.specs.Prelude.{◌≡◌, IfOk};
 ghost use Rattle.serde_json.specs.View.{view};
-ghost use Rattle.column_json.specs.Values.{integer_value, list_value, number_value};
+ghost use Rattle.column_json.specs.Values.{number_value};
 
 use crate::writer::bytes_json;
 use arrow_flat::{DaysMs, MonthDayNano, NativeType};

@@ -1,11 +1,9 @@
 //! The values of primitive columns as JSON values.
-ghost use Rattle.std.specs.Prelude.{◌≡◌, ◌^◌, map, option_map, Some, None, IfOk, IsErrOf, pos};
-ghost use Rattle.std.specs.Int.{w8, w16, w32, w64, w128};
+ghost use Rattle.std.specs.Prelude.{◌≡◌, option_map, Some, None, IfOk, IsErrOf};
 ghost use Rattle.serde_json.specs.View.{view};
-ghost use Rattle.arrow_flat.specs.Natives.{signed, unsigned, days_ms, month_day_nano};
 ghost use Rattle.arrow_types.specs.declared.datatype.PrimitiveType.TheVariants as primitive;
 ghost use Rattle.column_json.specs.Reads.{offset_bits};
-ghost use Rattle.column_json.specs.Values.{signed_in, unsigned_in, number_in, int128_of};
+ghost use Rattle.column_json.specs.Values.{signed_in, number_in};
 
 use crate::JobError;
 use crate::numbers::{

@@ -1,17 +1,16 @@
 //! A column from its JSON value.
-ghost use Rattle.std.specs.Prelude.{◌≡◌, ℤ, List, [], ◌∷◌, map, option_map, option_and_then, codes, Some, None, IfOk, IsErrOf};
+ghost use Rattle.std.specs.Prelude.{◌≡◌, map, Some, None, IfOk, IsErrOf};
 ghost use Rattle.serde_json.specs.View.{view};
 ghost use Rattle.arrow_types.specs.Seen.{seen};
 ghost use Rattle.arrow_types.specs.TypeData.{TypeData};
 ghost use Rattle.arrow_types.specs.Types.{physical_of};
 ghost use Rattle.arrow_types.specs.declared.datatype.PhysicalType.TheVariants as physical;
-ghost use Rattle.arrow_bytes.specs.FixedSizeBinaries.{size_of};
 ghost use Rattle.arrow_flat.specs.Natives.{octets, IsNative};
 ghost use Rattle.arrow_json.specs.Values.{traverse};
 ghost use Rattle.arrow_json.specs.TypeJson.{type_in};
 ghost use Rattle.column_json.specs.Values.{bytes_in, number_in, list_in, signed_in};
-ghost use Rattle.column_json.specs.Reads.{offset_bits, booleans_in, primitives_in, binaries_in, fixed_size_binaries_in, view_in, views_in, data_in, column_from, column_of};
-ghost use Rattle.column_read.specs.Parts.{booleans_layout, primitives_layout, binaries_layout, fixed_size_binaries_layout, views_layout, numbers_layout, data_layout, number_kind, data_kind, data_of, sized_of, IsNativeLayout, IsNativeStored, column_seen, IsReadAs, HasKind, AreOctets};
+ghost use Rattle.column_json.specs.Reads.{offset_bits, booleans_in, primitives_in, binaries_in, fixed_size_binaries_in, views_in, data_in, column_from, column_of};
+ghost use Rattle.column_read.specs.Parts.{booleans_layout, primitives_layout, binaries_layout, fixed_size_binaries_layout, numbers_layout, data_layout, number_kind, data_kind, data_of, sized_of, IsNativeLayout, IsNativeStored, column_seen, IsReadAs, HasKind, AreOctets};
 
 use crate::values::{bits_in, bytes_in, items, mask_in, slice_in, three_members, two_members};
 use crate::views::views_in;
@@ -20,6 +19,7 @@ use crate::{
     PrimitiveParts, ReadNative, ReadOffset,
 };
 use arrow_buffers::Buffer;
+use arrow_bytes::size_of_values;
 use arrow_json::{JsonError, type_of};
 use arrow_types::{ArrowDataType, PhysicalType, PrimitiveType};
 use serde_json::Value;
@@ -151,18 +151,6 @@ fn fixed_size_binaries_in(
     })
 }
 
-/// The size that a type of values of one size declares, through extensions; None for another type.
-#[tactic(auto, using(arrow_flat::proofs::TypeViews::seen_types))]
-fn size_of(dtype: &ArrowDataType) -> Option<usize>
-    ensures { result ≡ size_of (seen dtype.now) }
-{
-    match dtype {
-        ArrowDataType::FixedSizeBinary(size) => Some(*size),
-        ArrowDataType::Extension(extension) => size_of(&extension.get().inner),
-        _ => None,
-    }
-}
-
 /// The values of a primitive type.
 fn numbers_in(alloc: Global, kind: PrimitiveType, value: &Value) -> Result<PrimitiveData, JobError>
     requires { IsNative kind }
@@ -236,7 +224,7 @@ fn data_in(alloc: Global, dtype: &ArrowDataType, value: &Value) -> Result<Column
     ensures bad { IsErrOf result JobError.BadJob → data_in (seen dtype.now) (view value.now) ≡ None }
 {
     match dtype.to_physical_type() {
-        Some(layout) => parts_in(alloc, layout, size_of(dtype), value),
+        Some(layout) => parts_in(alloc, layout, size_of_values(dtype), value),
         None => Err(JobError::BadJob),
     }
 }

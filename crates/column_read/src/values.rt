@@ -1,14 +1,13 @@
 //! What the data of a column is made of, from JSON values.
-ghost use Rattle.std.specs.Prelude.{◌≡◌, ◌<◌, ◌^◌, ◌%◌, [], ◌∷◌, map, option_map, option_and_then, Some, None, IfOk, IsErrOf, pos};
+ghost use Rattle.std.specs.Prelude.{◌≡◌, ◌<◌, map, option_map, option_and_then, Some, None, IfOk, IsErrOf};
 ghost use Rattle.serde_json.specs.View.{view};
-ghost use Rattle.arrow_buffers.specs.Bits.{plain};
 ghost use Rattle.arrow_flat.specs.Natives.{octets};
 ghost use Rattle.arrow_json.specs.Values.{traverse, two_members, three_members};
-ghost use Rattle.column_json.specs.Values.{bit_of, bits_in, mask_in, bytes_in, signed_in, unsigned_in, items_in, pair_of, triple_of};
+ghost use Rattle.column_json.specs.Values.{bit_of, bits_in, mask_in, bytes_in, items_in, pair_of, triple_of};
 ghost use Rattle.column_json.specs.Reads.{slice_in};
 
 use crate::JobError;
-use arrow_buffers::{Bitmap, Buffer};
+use arrow_buffers::Bitmap;
 use arrow_json::whole_in;
 use hex::FromHexError;
 use serde_json::Value;

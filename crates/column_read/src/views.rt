@@ -1,5 +1,5 @@
 //! Views from their JSON values.
-ghost use Rattle.std.specs.Prelude.{◌≡◌, ℕ, List, [], ◌∷◌, map, option_map, option_and_then, codes, Some, None, IfOk, IsErrOf};
+ghost use Rattle.std.specs.Prelude.{◌≡◌, ℕ, List, map, option_map, option_and_then, Some, None, IfOk, IsErrOf};
 ghost use Rattle.serde_json.specs.View.{view};
 ghost use Rattle.arrow_types.specs.TypeData.{TypeData};
 ghost use Rattle.arrow_flat.specs.Natives.{octets};

@@ -1,5 +1,5 @@
 -- Columns as they are read: their types, and their depths.
-use Rattle.std.proofs.Common.{◌≡◌, ◌<◌, ◌≤◌, ℕ, refl, sym, subst, true, false, leb-true, leb-false, arith}
+use Rattle.std.proofs.Common.{◌≡◌, ◌<◌, ◌≤◌, ℕ, refl, sym, subst, true, false, leb-true, leb-false}
 use Rattle.std.specs.Prelude.{Bool, nat_le, Decides}
 use Rattle.arrow_types.specs.Depth.{depth_of}
 use Rattle.arrow_types.specs.TypeData.{TypeData}

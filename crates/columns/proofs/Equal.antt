@@ -1,5 +1,5 @@
 -- Equal texts of canonical columns are of equal slots.
-use Rattle.std.proofs.Common.{◌≡◌, ◌≤◌, List, [], ◌∷◌, refl, ap, sym, ◌∙◌, subst, Some, None, true, false}
+use Rattle.std.proofs.Common.{◌≡◌, ◌≤◌, List, refl, ap, sym, ◌∙◌, subst, Some, None, true, false}
 use Rattle.std.specs.Prelude.{Bool, cond, map}
 use Rattle.std.specs.List.{list_all}
 use Rattle.arrow_buffers.specs.Bits.{plain}

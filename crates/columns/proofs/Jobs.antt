@@ -1,5 +1,5 @@
 -- What the bytes that a run took say of those that the source told.
-use Rattle.std.proofs.Common.{◌≡◌, ◌<◌, ◌≤◌, arith, ℕ, ◌++◌, [], subst, append-nil, List, refl, ap, sym, ◌∙◌, Option, Some, None}
+use Rattle.std.proofs.Common.{◌≡◌, ◌<◌, arith, ℕ, ◌++◌, [], subst, append-nil, List, refl, ap, sym, ◌∙◌, Option, Some, None}
 use Rattle.std.specs.Io.KnownBytes.{Consumes, IsAtEnd}
 use Rattle.std.specs.Prelude.{IfSome}
 use Rattle.arrow_meaning.specs.Layouts.{Layout, type_of}

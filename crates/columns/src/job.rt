@@ -1,8 +1,7 @@
 //! The top call: the words, the bytes read, and the bytes written.
-ghost use Rattle.std.specs.Prelude.{◌≡◌, ◌≢◌, ◌↔◌, ◌≤◌, ◌⊎◌, List, [], ◌∷◌, map, length, codes, string_bytes, ℕ, Some, None, IsTrue, IfOk, IfErr, IsSome, IfSome, IsErrOf};
+ghost use Rattle.std.specs.Prelude.{◌≡◌, ◌≢◌, ◌↔◌, ◌≤◌, ◌⊎◌, [], ◌∷◌, map, length, codes, string_bytes, ℕ, Some, None, IsTrue, IfOk, IfErr, IsSome, IfSome, IsErrOf};
 ghost use Rattle.std.specs.Io.KnownBytes.{Appends};
 ghost use Rattle.serde_json.specs.View.{view};
-ghost use Rattle.arrow_types.specs.Depth.{depth_of};
 ghost use Rattle.arrow_types.specs.Seen.{seen};
 ghost use Rattle.arrow_meaning.specs.Layouts.{Layout};
 ghost use Rattle.arrow_meaning.specs.Fits.{Fits};

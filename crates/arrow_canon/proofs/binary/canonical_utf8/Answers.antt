@@ -15,19 +15,19 @@ canonical_strings-requires g c =
     let limit = g.O.Offset.limit in
     lengths_fit limit a.mask (map number a.offsets) a.values (subst (λ os. AreOffsets limit (map number os)) c.offsets.ensures c.len_proxy.ensures.sound)
 
-pub fitted_utf8-requires-clause-within : goal.fitted_utf8-requires-clause-within
-fitted_utf8-requires-clause-within g c =
+pub new-requires-clause-within : goal.new-requires-clause-within
+new-requires-clause-within g c =
     let number = g.O.Offset.number in
     canonical_within number c.args.array.now (map number c.in_ok-offsets.offsets) c.in_ok-offsets.values c.in_ok-offsets.ensures.0 c.in_ok-offsets.ensures.1
 
-pub fitted_utf8-requires-clause-fits : goal.fitted_utf8-requires-clause-fits
-fitted_utf8-requires-clause-fits g c =
+pub new-requires-clause-fits : goal.new-requires-clause-fits
+new-requires-clause-fits g c =
     let number = g.O.Offset.number in
     canonical_mask_fits number c.args.array.now (map number c.in_ok-offsets.offsets) c.in_ok-validity.validity c.dtype.ensures.sound.binary.array.fits
     c.in_ok-offsets.ensures.0 (c.in_ok-validity.ensures ∙ ap plain_mask c.validity.ensures)
 
-pub fitted_utf8-requires-clause-texts : goal.fitted_utf8-requires-clause-texts
-fitted_utf8-requires-clause-texts g c =
+pub new-requires-clause-texts : goal.new-requires-clause-texts
+new-requires-clause-texts g c =
     let number = g.O.Offset.number in
     canonical_texts number c.args.array.now (map number c.in_ok-offsets.offsets) c.in_ok-offsets.values c.dtype.ensures.sound.texts c.in_ok-offsets.ensures.0 c.in_ok-offsets.ensures.1
 
@@ -35,7 +35,7 @@ pub returns : goal.returns
 returns g c =
     let a = c.args.array.now in
     let number = g.O.Offset.number in
-    ap (binary_layout number) c.fitted_utf8.ensures
+    ap (binary_layout number) c.new.ensures
     ∙ canonical_binaries number a (record { dtype = c.in_ok-dtype.dtype; offsets = c.in_ok-offsets.offsets; values = c.in_ok-offsets.values; mask = c.in_ok-validity.validity })
     g.O.Offset.IS_LARGE true (texts_form (seen a.dtype) g.O.Offset.IS_LARGE c.dtype.ensures.sound.binary.array.stored) c.dtype.ensures.sound.binary.array.fits
     (c.in_ok-dtype.ensures ∙ c.dtype.ensures.value) c.in_ok-offsets.ensures.0 c.in_ok-offsets.ensures.1 (c.in_ok-validity.ensures ∙ ap plain_mask c.validity.ensures)

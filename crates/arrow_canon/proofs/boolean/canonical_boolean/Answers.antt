@@ -7,8 +7,8 @@ use Rattle.arrow_canon.proofs.Booleans.{canonical_booleans}
 use Rattle.arrow_canon.proofs.MaskedSlots.{canonical_fits}
 use Rattle.arrow_canon.proofs.boolean.canonical_boolean.Goals as goal
 
-pub fitted-requires-clause-fits : goal.fitted-requires-clause-fits
-fitted-requires-clause-fits c =
+pub new-requires-clause-fits : goal.new-requires-clause-fits
+new-requires-clause-fits c =
     let a = c.args.array.now in
     let mask : c.in_ok-validity.validity ≡ plain_mask a.mask = c.in_ok-validity.ensures ∙ ap plain_mask c.validity.ensures in
     let fits : MaskFits (plain_mask a.mask) (length (values_or false (slots a))) = canonical_fits false a.mask a.values.bits c.dtype.ensures.sound.array.fits in
@@ -18,6 +18,6 @@ fitted-requires-clause-fits c =
 pub returns : goal.returns
 returns c =
     let a = c.args.array.now in
-    ap boolean_layout c.fitted.ensures
+    ap boolean_layout c.new.ensures
     ∙ canonical_booleans a (record { dtype = c.in_ok-dtype.dtype; values = c.in_ok-values.values; mask = c.in_ok-validity.validity }) c.dtype.ensures.sound
     (c.in_ok-dtype.ensures ∙ c.dtype.ensures.value) c.in_ok-values.ensures (c.in_ok-validity.ensures ∙ ap plain_mask c.validity.ensures)

@@ -6,8 +6,8 @@ use Rattle.arrow_canon.proofs.MaskedSlots.{canonical_fits}
 use Rattle.arrow_canon.proofs.Primitives.{canonical_numbers}
 use Rattle.arrow_canon.proofs.primitive.canonical_primitive.Goals as goal
 
-pub fitted-requires-clause-fits : goal.fitted-requires-clause-fits
-fitted-requires-clause-fits g c =
+pub new-requires-clause-fits : goal.new-requires-clause-fits
+new-requires-clause-fits g c =
     let a = c.args.array.now in
     let zero = g.T.NativeType.zero in
     let mask : c.in_ok-validity.validity ≡ plain_mask a.mask = c.in_ok-validity.ensures ∙ ap plain_mask c.validity.ensures in
@@ -23,6 +23,6 @@ returns g c =
     let zero = g.T.NativeType.zero in
     let mask : c.in_ok-validity.validity ≡ plain_mask a.mask = c.in_ok-validity.ensures ∙ ap plain_mask c.validity.ensures in
     let values : c.in_ok-values-2.values ≡ values_or zero (slots a) = c.in_ok-values-2.ensures ∙ c.in_ok-values.ensures in
-    ap (primitive_layout parts) c.fitted.ensures
+    ap (primitive_layout parts) c.new.ensures
     ∙ canonical_numbers parts zero g.T.NativeType.PRIMITIVE g.met.T.NativeType.zero_parts a (record { dtype = c.in_ok-dtype.dtype; values = c.in_ok-values-2.values; mask = c.in_ok-validity.validity })
     c.dtype.ensures.sound (c.in_ok-dtype.ensures ∙ c.dtype.ensures.value) values mask

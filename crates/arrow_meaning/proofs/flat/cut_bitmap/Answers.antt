@@ -1,6 +1,5 @@
 use Rattle.std.proofs.Common.{◌≡◌, ap, sym, ◌∙◌, Some}
-use Rattle.arrow_buffers.specs.Bits.{Bits, cut_bits, count_unset}
-use Rattle.arrow_meaning.specs.Cut.{cut_mask}
+use Rattle.arrow_buffers.specs.Bits.{cut_bits, count_unset}
 use Rattle.arrow_meaning.proofs.FlatLayouts.{dropped, kept}
 use Rattle.arrow_meaning.proofs.flat.cut_bitmap.Goals as goal
 

@@ -1,6 +1,4 @@
-use Rattle.std.proofs.Common.{◌≡◌, ◌+◌, ◌≤◌, length, ap, sym, ◌∙◌, subst, arith}
-use Rattle.std.specs.Prelude.{pred}
-use Rattle.std.proofs.lemmas.List.{length-map}
+use Rattle.std.proofs.Common.{◌≡◌, length, ap, sym, ◌∙◌}
 use Rattle.arrow_buffers.proofs.Windows.{window_length}
 use Rattle.arrow_meaning.specs.Cut.{cut_mask}
 use Rattle.arrow_flat.specs.Booleans.{cut}

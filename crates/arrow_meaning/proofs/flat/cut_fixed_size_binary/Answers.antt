@@ -1,7 +1,4 @@
-use Rattle.std.proofs.Common.{◌≡◌, ◌+◌, ◌≤◌, length, ap, sym, ◌∙◌, subst, arith}
-use Rattle.std.specs.Prelude.{pred}
-use Rattle.std.proofs.lemmas.List.{length-map}
-use Rattle.arrow_buffers.proofs.Windows.{window_length}
+use Rattle.std.proofs.Common.{◌≡◌, length, ap, sym, ◌∙◌}
 use Rattle.arrow_meaning.specs.Cut.{cut_mask}
 use Rattle.arrow_bytes.specs.FixedSizeBinaries.{cut, count_of}
 use Rattle.arrow_meaning.specs.Nodes.{fixed_size_binary_layout}

@@ -1,7 +1,5 @@
-use Rattle.std.proofs.Common.{◌≡◌, ◌+◌, ◌≤◌, length, ap, sym, ◌∙◌, subst, arith}
+use Rattle.std.proofs.Common.{◌≡◌, ◌+◌, length, ap, sym, ◌∙◌}
 use Rattle.std.specs.Prelude.{pred, map}
-use Rattle.std.proofs.lemmas.List.{length-map}
-use Rattle.arrow_buffers.proofs.Windows.{window_length}
 use Rattle.arrow_meaning.specs.Cut.{cut_mask}
 use Rattle.arrow_bytes.specs.Binaries.{cut}
 use Rattle.arrow_meaning.specs.Nodes.{binary_layout}

@@ -1,4 +1,4 @@
-use Rattle.std.proofs.Common.{◌^◌, ◌<◌, length, map, subst, sym, arith}
+use Rattle.std.proofs.Common.{◌^◌, ◌<◌, length, map, subst, arith}
 use Rattle.std.specs.Prelude.{pred}
 use Rattle.arrow_buffers.specs.Offsets.{AreOffsets}
 use Rattle.arrow_types.specs.Seen.{seen}

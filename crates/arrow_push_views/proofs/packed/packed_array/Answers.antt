@@ -5,28 +5,28 @@ use Rattle.arrow_views.specs.ViewArrays.{slots}
 use Rattle.arrow_push_views.proofs.ViewsPacked.{views_count, views_read, views_placed, views_texts}
 use Rattle.arrow_push_views.proofs.packed.packed_array.Goals as goal
 
-pub fitted-requires-clause-fits : goal.fitted-requires-clause-fits
-fitted-requires-clause-fits g c =
+pub new-requires-clause-fits : goal.new-requires-clause-fits
+new-requires-clause-fits g c =
     subst (MaskFits c.args.validity)
     (sym (views_count c.args.strings.now c.in_ok-views-2.views (map octets c.in_ok-views.buffers.items) (c.in_ok-views-2.ensures ∙ c.in_ok-views.ensures.0) c.in_ok-views.ensures.1))
     c.requires.fits
 
-pub fitted-requires-clause-placed : goal.fitted-requires-clause-placed
-fitted-requires-clause-placed g c =
+pub new-requires-clause-placed : goal.new-requires-clause-placed
+new-requires-clause-placed g c =
     let packed = c.requires.sound.packed in
     views_placed c.args.strings.now c.in_ok-views-2.views (map octets c.in_ok-views.buffers.items) (c.in_ok-views-2.ensures ∙ c.in_ok-views.ensures.0) c.in_ok-views.ensures.1
     packed.fit packed.small packed.few
 
-pub fitted-requires-clause-texts : goal.fitted-requires-clause-texts
-fitted-requires-clause-texts g c =
+pub new-requires-clause-texts : goal.new-requires-clause-texts
+new-requires-clause-texts g c =
     let packed = c.requires.sound.packed in
     views_texts c.args.strings.now c.in_ok-views-2.views (map octets c.in_ok-views.buffers.items) (c.in_ok-views-2.ensures ∙ c.in_ok-views.ensures.0) c.in_ok-views.ensures.1
     g.T.ViewType.IS_TEXT packed.fit packed.texts
 
 pub returns : goal.returns
 returns g c = (
-  ap (λ a. a.dtype) c.fitted.ensures ∙ c.in_ok-dtype.ensures,
-  ap slots c.fitted.ensures
+  ap (λ a. a.dtype) c.new.ensures ∙ c.in_ok-dtype.ensures,
+  ap slots c.new.ensures
       ∙ ap (masked c.args.validity)
       (views_read c.args.strings.now c.in_ok-views-2.views (map octets c.in_ok-views.buffers.items) (c.in_ok-views-2.ensures ∙ c.in_ok-views.ensures.0) c.in_ok-views.ensures.1 c.requires.sound.packed.fit),
 )

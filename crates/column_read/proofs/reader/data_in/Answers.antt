@@ -8,8 +8,8 @@ use Rattle.column_read.proofs.StoredData.{data_stored}
 use Rattle.column_read.proofs.Loops.{if_ok}
 use Rattle.column_read.proofs.reader.data_in.Goals as goal
 
-same : (c : goal.After-parts_in) → data_in (seen c.args.dtype.now) (view c.args.value.now) ≡ data_of (seen c.args.dtype.now) c.in-Some.layout c.size_of.result (view c.args.value.now)
-same c = data_stored (seen c.args.dtype.now) (view c.args.value.now) (Some c.in-Some.layout) c.size_of.result c.in-Some.ensures c.size_of.ensures
+same : (c : goal.After-parts_in) → data_in (seen c.args.dtype.now) (view c.args.value.now) ≡ data_of (seen c.args.dtype.now) c.in-Some.layout c.size_of_values.result (view c.args.value.now)
+same c = data_stored (seen c.args.dtype.now) (view c.args.value.now) (Some c.in-Some.layout) c.size_of_values.result c.in-Some.ensures c.size_of_values.ensures
 
 pub returns-in-Some-clause-ok : goal.returns-in-Some-clause-ok
 returns-in-Some-clause-ok c = if_ok c.parts_in.result (λ d h. same c ∙ h (seen c.args.dtype.now)) c.parts_in.ensures.ok

@@ -1,4 +1,4 @@
-use Rattle.std.proofs.Common.{◌<◌, ℕ, zero, suc, ap, sym, subst, arith}
+use Rattle.std.proofs.Common.{◌<◌, ℕ, zero, suc, sym, subst, arith}
 use Rattle.arrow_buffers.specs.Bits.{lead_of}
 use Rattle.arrow_buffers.proofs.Bytes.{seen_length}
 use Rattle.arrow_buffers.proofs.bitmap.Bitmap.len.Goals as goal

@@ -9,7 +9,7 @@ use Rattle.arrow_push_bytes.proofs.binary.MutableBinaryValuesArrayValuesBuilder.
 pub returns-clause-value : goal.returns-clause-value
 returns-clause-value g c =
     let number = g.O.Offset.number in
-    ap (shown_binary number) c.fitted.ensures
+    ap (shown_binary number) c.new.ensures
     ∙ shown_parts bytes c.in_ok-dtype.dtype c.args.self.now.dtype c.args.validity
     (pieces (map to_nat (map number c.in_ok-offsets.offsets)) c.in_ok-offsets.values) c.args.self.now.strings
     c.in_ok-dtype.ensures c.in_ok-offsets.ensures.value
