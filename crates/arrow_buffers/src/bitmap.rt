@@ -9,11 +9,21 @@ use std::alloc::Global;
 use std::marker::Model;
 
 /// Bits that may be shared, seen as the list of those in its window and the count of bits before them in their byte.
-#[derive(Drop)]
 pub struct Bitmap {
     pub(crate) bytes: Buffer<u8>,
     pub(crate) start: usize,
     pub(crate) slots: usize,
+}
+
+/// By hand, so that each place where a value may end has one call to prove, and not the drop of every field.
+impl Drop for Bitmap {
+    fn drop(self) {
+        let Bitmap {
+            bytes: _,
+            start: _,
+            slots: _,
+        } = self;
+    }
 }
 
 impl Model for Bitmap {

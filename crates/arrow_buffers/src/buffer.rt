@@ -9,11 +9,21 @@ use std::rc::Rc;
 use std::slice::Iter;
 
 /// Items that may be shared, seen as the list of those in its window.
-#[derive(Drop)]
 pub struct Buffer<T> {
     shared: Rc<Vec<T>>,
     start: usize,
     slots: usize,
+}
+
+/// By hand, so that each place where a value may end has one call to prove, and not the drop of every field.
+impl<T: Drop> Drop for Buffer<T> {
+    fn drop(self) {
+        let Buffer {
+            shared: _,
+            start: _,
+            slots: _,
+        } = self;
+    }
 }
 
 impl<T> Model for Buffer<T> {

@@ -7,9 +7,15 @@ use std::alloc::Global;
 use std::marker::Model;
 
 /// Bits that grow at their end, seen as their list.
-#[derive(Drop)]
 pub struct BitmapBuilder {
     bits: MutableBitmap,
+}
+
+/// By hand, so that each place where a value may end has one call to prove, and not the drop of every field.
+impl Drop for BitmapBuilder {
+    fn drop(self) {
+        let BitmapBuilder { bits: _ } = self;
+    }
 }
 
 impl Model for BitmapBuilder {
@@ -88,14 +94,16 @@ impl BitmapBuilder {
     pub fn freeze(self) -> Mem<Bitmap>
         ensures { IfOk result (λ b. b ≡ plain self) }
     {
-        self.bits.freeze()
+        let BitmapBuilder { bits } = self;
+        bits.freeze()
     }
 
     /// The bits as a mask, or `None` where every bit is set.
     pub fn into_opt_validity(self) -> Mem<Option<Bitmap>>
         ensures { IfOk result (λ mask. mask ≡ needed_mask self) }
     {
-        let mask = self.bits.freeze()?;
+        let BitmapBuilder { bits } = self;
+        let mask = bits.freeze()?;
         if mask.unset_bits() == 0 {
             return Ok(None);
         }

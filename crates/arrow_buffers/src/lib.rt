@@ -11,8 +11,6 @@ mod mutable;
 mod offset;
 mod offsets;
 mod offsets_buffer;
-#[cfg(test)]
-mod tests;
 
 pub use bitmap::Bitmap;
 pub use buffer::Buffer;

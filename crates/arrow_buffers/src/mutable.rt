@@ -8,10 +8,16 @@ use std::alloc::{AllocError, Global};
 use std::marker::Model;
 
 /// Bits that grow at their end, seen as their list.
-#[derive(Drop)]
 pub struct MutableBitmap {
     bytes: Vec<u8>,
     slots: usize,
+}
+
+/// By hand, so that each place where a value may end has one call to prove, and not the drop of every field.
+impl Drop for MutableBitmap {
+    fn drop(self) {
+        let MutableBitmap { bytes: _, slots: _ } = self;
+    }
 }
 
 impl Model for MutableBitmap {
@@ -136,11 +142,12 @@ impl MutableBitmap {
     pub fn freeze(self) -> Mem<Bitmap>
         ensures { IfOk result (λ b. b ≡ plain self) }
     {
-        let alloc = *self.bytes.allocator();
+        let MutableBitmap { bytes, slots } = self;
+        let alloc = *bytes.allocator();
         Ok(Bitmap {
-            bytes: Buffer::from_vec(alloc, self.bytes)?,
+            bytes: Buffer::from_vec(alloc, bytes)?,
             start: 0,
-            slots: self.slots,
+            slots,
         })
     }
 }

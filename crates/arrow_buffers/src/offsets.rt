@@ -8,9 +8,15 @@ use std::alloc::{AllocError, Global};
 use std::marker::Model;
 
 /// Offsets that grow at their end, seen as their list: where each slot begins, and where the last one ends.
-#[derive(Drop)]
 pub struct Offsets<O: Offset> {
     items: Vec<O>,
+}
+
+/// By hand, so that each place where a value may end has one call to prove, and not the drop of every field.
+impl<O: Offset> Drop for Offsets<O> {
+    fn drop(self) {
+        let Offsets { items: _ } = self;
+    }
 }
 
 impl<O: Offset> Model for Offsets<O> {
@@ -118,9 +124,10 @@ impl<O: Offset> Offsets<O> {
     pub fn freeze(self) -> Mem<OffsetsBuffer<O>>
         ensures { IfOk result (λ b. b ≡ self) }
     {
-        let alloc = *self.items.allocator();
+        let Offsets { items } = self;
+        let alloc = *items.allocator();
         Ok(OffsetsBuffer {
-            items: Buffer::from_vec(alloc, self.items)?,
+            items: Buffer::from_vec(alloc, items)?,
         })
     }
 

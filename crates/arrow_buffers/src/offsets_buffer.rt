@@ -7,9 +7,15 @@ use std::alloc::Global;
 use std::marker::Model;
 
 /// Offsets that may be shared, seen as their list: where each slot begins, and where the last one ends.
-#[derive(Drop)]
 pub struct OffsetsBuffer<O: Offset> {
     pub(crate) items: Buffer<O>,
+}
+
+/// By hand, so that each place where a value may end has one call to prove, and not the drop of every field.
+impl<O: Offset> Drop for OffsetsBuffer<O> {
+    fn drop(self) {
+        let OffsetsBuffer { items: _ } = self;
+    }
 }
 
 impl<O: Offset> Model for OffsetsBuffer<O> {

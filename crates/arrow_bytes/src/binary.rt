@@ -21,12 +21,23 @@ use std::marker::Model;
 /// An array of byte strings, seen as its type, its offsets, the bytes of all slots and its mask.
 ///
 /// The Arrow Columnar Format's variable-size binary layout.
-#[derive(Drop)]
 pub struct BinaryArray<O: Offset> {
     dtype: ArrowDataType,
     offsets: OffsetsBuffer<O>,
     values: Buffer<u8>,
     validity: Option<Bitmap>,
+}
+
+/// By hand, so that each place where a value may end has one call to prove, and not the drop of every field.
+impl<O: Offset> Drop for BinaryArray<O> {
+    fn drop(self) {
+        let BinaryArray {
+            dtype: _,
+            offsets: _,
+            values: _,
+            validity: _,
+        } = self;
+    }
 }
 
 impl<O: Offset> Model for BinaryArray<O> {

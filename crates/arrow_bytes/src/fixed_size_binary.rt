@@ -18,12 +18,23 @@ use std::marker::Model;
 /// An array of byte strings of one size, seen as its type, the size, its bytes and its mask.
 ///
 /// The Arrow Columnar Format's fixed-size primitive layout, of byte strings.
-#[derive(Drop)]
 pub struct FixedSizeBinaryArray {
     dtype: ArrowDataType,
     size: usize,
     values: Buffer<u8>,
     validity: Option<Bitmap>,
+}
+
+/// By hand, so that each place where a value may end has one call to prove, and not the drop of every field.
+impl Drop for FixedSizeBinaryArray {
+    fn drop(self) {
+        let FixedSizeBinaryArray {
+            dtype: _,
+            size: _,
+            values: _,
+            validity: _,
+        } = self;
+    }
 }
 
 impl Model for FixedSizeBinaryArray {

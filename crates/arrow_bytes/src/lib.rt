@@ -6,8 +6,6 @@ mod fixed_size_binary;
 mod generic;
 mod piece;
 mod stored;
-#[cfg(test)]
-mod tests;
 mod utf8;
 
 pub use binary::BinaryArray;

@@ -19,9 +19,9 @@ pub fn canonical_binary<O: Offset>(alloc: Global, array: &BinaryArray<O>) -> Mem
     ensures { IfOk result (λ a. binary_layout O.number a ≡ canon (seen array.now.dtype) (denote (binary_layout O.number array.now))) }
 {
     array.offsets().len_proxy();
-    let dtype = array.dtype().try_clone(alloc)?;
     let (offsets, values) = canonical_strings::<O, BinaryArray<O>>(alloc, array)?;
     let validity = canonical_mask(alloc, array.validity())?;
+    let dtype = array.dtype().try_clone(alloc)?;
     Ok(BinaryArray::new(dtype, offsets, values, validity))
 }
 
@@ -30,9 +30,9 @@ pub fn canonical_utf8<O: Offset>(alloc: Global, array: &Utf8Array<O>) -> Mem<Utf
     ensures { IfOk result (λ a. binary_layout O.number a ≡ canon (seen array.now.dtype) (denote (binary_layout O.number array.now))) }
 {
     array.offsets().len_proxy();
-    let dtype = array.dtype().try_clone(alloc)?;
     let (offsets, values) = canonical_strings::<O, Utf8Array<O>>(alloc, array)?;
     let validity = canonical_mask(alloc, array.validity())?;
+    let dtype = array.dtype().try_clone(alloc)?;
     Ok(Utf8Array::new(dtype, offsets, values, validity))
 }
 

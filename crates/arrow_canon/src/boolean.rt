@@ -19,9 +19,9 @@ use std::alloc::Global;
 pub fn canonical_boolean(alloc: Global, array: &BooleanArray) -> Mem<BooleanArray>
     ensures { IfOk result (λ a. boolean_layout a ≡ canon (seen array.now.dtype) (denote (boolean_layout array.now))) }
 {
-    let dtype = array.dtype().try_clone(alloc)?;
     let values = canonical_bits(alloc, array)?;
     let validity = canonical_mask(alloc, array.validity())?;
+    let dtype = array.dtype().try_clone(alloc)?;
     Ok(BooleanArray::new(dtype, values, validity))
 }
 

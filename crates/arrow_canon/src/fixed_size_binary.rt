@@ -19,9 +19,9 @@ pub fn canonical_fixed_size_binary(
 ) -> Mem<FixedSizeBinaryArray>
     ensures { IfOk result (λ a. fixed_size_binary_layout a ≡ canon (seen array.now.dtype) (denote (fixed_size_binary_layout array.now))) }
 {
-    let dtype = array.dtype().try_clone(alloc)?;
     let values = joined_bytes(alloc, array, array.size(), array.values().len())?;
     let values = Buffer::from_vec(alloc, values)?;
     let validity = canonical_mask(alloc, array.validity())?;
+    let dtype = array.dtype().try_clone(alloc)?;
     Ok(FixedSizeBinaryArray::new(dtype, values, validity))
 }

@@ -9,8 +9,6 @@ mod joined;
 mod mask;
 mod normal;
 mod primitive;
-#[cfg(test)]
-mod tests;
 mod view;
 
 pub use binary::{canonical_binary, canonical_utf8};

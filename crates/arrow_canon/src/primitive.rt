@@ -21,10 +21,10 @@ pub fn canonical_primitive<T: NativeType>(
 ) -> Mem<PrimitiveArray<T>>
     ensures { IfOk result (λ a. primitive_layout T.parts a ≡ canon (seen array.now.dtype) (denote (primitive_layout T.parts array.now))) }
 {
-    let dtype = array.dtype().try_clone(alloc)?;
     let values = canonical_values(alloc, array)?;
     let values = Buffer::from_vec(alloc, values)?;
     let validity = canonical_mask(alloc, array.validity())?;
+    let dtype = array.dtype().try_clone(alloc)?;
     Ok(PrimitiveArray::new(dtype, values, validity))
 }
 

@@ -81,10 +81,10 @@ fn packed_array<T: ViewType>(
 {
     array.len();
     array.data_buffers();
-    let dtype = array.dtype().try_clone(alloc)?;
     let (views, buffers) = packed_values(alloc, array)?;
     let views = Buffer::from_vec(alloc, views)?;
     let validity = canonical_mask(alloc, array.validity())?;
+    let dtype = array.dtype().try_clone(alloc)?;
     Ok(BinaryViewArrayGeneric::new(dtype, views, buffers, validity))
 }
 

@@ -20,11 +20,21 @@ use std::marker::Model;
 /// An array of bits, seen as its type, its values and its mask.
 ///
 /// The Arrow Columnar Format's fixed-size primitive layout, of single bits.
-#[derive(Drop)]
 pub struct BooleanArray {
     dtype: ArrowDataType,
     values: Bitmap,
     validity: Option<Bitmap>,
+}
+
+/// By hand, so that each place where a value may end has one call to prove, and not the drop of every field.
+impl Drop for BooleanArray {
+    fn drop(self) {
+        let BooleanArray {
+            dtype: _,
+            values: _,
+            validity: _,
+        } = self;
+    }
 }
 
 impl Model for BooleanArray {

@@ -19,11 +19,21 @@ use std::marker::Model;
 /// An array of values of one width, seen as its type, its values and its mask.
 ///
 /// The Arrow Columnar Format's fixed-size primitive layout.
-#[derive(Drop)]
 pub struct PrimitiveArray<T: NativeType> {
     dtype: ArrowDataType,
     values: Buffer<T>,
     validity: Option<Bitmap>,
+}
+
+/// By hand, so that each place where a value may end has one call to prove, and not the drop of every field.
+impl<T: NativeType> Drop for PrimitiveArray<T> {
+    fn drop(self) {
+        let PrimitiveArray {
+            dtype: _,
+            values: _,
+            validity: _,
+        } = self;
+    }
 }
 
 impl<T: NativeType> Model for PrimitiveArray<T> {

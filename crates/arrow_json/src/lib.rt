@@ -5,8 +5,6 @@ mod error;
 mod laws;
 mod names;
 mod reader;
-#[cfg(test)]
-mod tests;
 mod values;
 mod writer;
 

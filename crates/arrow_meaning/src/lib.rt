@@ -7,8 +7,6 @@ pub mod laws;
 mod node;
 mod offset;
 mod primitive;
-#[cfg(test)]
-mod tests;
 mod view;
 
 pub use array::ArrayRef;

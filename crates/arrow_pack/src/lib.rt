@@ -2,7 +2,5 @@
 #![tactic(auto)]
 
 mod packer;
-#[cfg(test)]
-mod packer_tests;
 
 pub use packer::ViewPacker;

@@ -13,11 +13,21 @@ use std::marker::Model;
 
 /// Packs the values of more than twelve bytes in order, seen as the limit and the buffers so far: a buffer ends exactly where the
 /// next value would make it longer than the limit.
-#[derive(Drop)]
 pub struct ViewPacker {
     alloc: Global,
     limit: u32,
     buffers: Vec<GrowingBuffer>,
+}
+
+/// By hand, so that each place where a value may end has one call to prove, and not the drop of every field.
+impl Drop for ViewPacker {
+    fn drop(self) {
+        let ViewPacker {
+            alloc: _,
+            limit: _,
+            buffers: _,
+        } = self;
+    }
 }
 
 impl Model for ViewPacker {
@@ -78,9 +88,14 @@ impl ViewPacker {
     pub fn finish(self) -> Mem<Vec<Buffer<u8>>>
         ensures { IfOk result (λ bs. map octets bs.items ≡ self.buffers) }
     {
-        let mut buffers = Vec::new(self.alloc);
-        for buffer in self.buffers {
-            buffers.push(buffer.finish(self.alloc)?)?;
+        let ViewPacker {
+            alloc,
+            limit: _,
+            buffers: grown,
+        } = self;
+        let mut buffers = Vec::new(alloc);
+        for buffer in grown {
+            buffers.push(buffer.finish(alloc)?)?;
         }
         Ok(buffers)
     }
@@ -127,9 +142,15 @@ fn view_at(value: &[u8], buffer: usize, offset: usize) -> View
 }
 
 /// A buffer that values are put into, seen as its bytes.
-#[derive(Drop)]
 struct GrowingBuffer {
     bytes: Vec<u8>,
+}
+
+/// By hand, so that each place where a value may end has one call to prove, and not the drop of every field.
+impl Drop for GrowingBuffer {
+    fn drop(self) {
+        let GrowingBuffer { bytes: _ } = self;
+    }
 }
 
 impl Model for GrowingBuffer {
@@ -169,6 +190,7 @@ impl GrowingBuffer {
     fn finish(self, alloc: Global) -> Mem<Buffer<u8>>
         ensures { IfOk result (λ b. octets b ≡ self) }
     {
-        Buffer::from_vec(alloc, self.bytes)
+        let GrowingBuffer { bytes } = self;
+        Buffer::from_vec(alloc, bytes)
     }
 }

@@ -15,12 +15,22 @@ use arrow_types::{ArrowDataType, Mem, PolarsResult};
 use std::alloc::Global;
 
 /// A builder of bits, without nulls.
-#[derive(Drop)]
 pub struct BooleanValues {
     dtype: ArrowDataType,
     values: MutableBitmap,
     alloc: Global,
     ghost stored: { physical_of (type_of dtype) ≡ Some physical.Boolean } by { Prim.hlevel (props, codes, physical_type.the_row.coded) },
+}
+
+/// By hand, so that each place where a value may end has one call to prove, and not the drop of every field.
+impl Drop for BooleanValues {
+    fn drop(self) {
+        let BooleanValues {
+            dtype: _,
+            values: _,
+            alloc: _,
+        } = self;
+    }
 }
 
 /// A builder of bits and nulls.

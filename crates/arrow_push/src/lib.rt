@@ -7,8 +7,6 @@ mod mask;
 mod masked;
 mod primitive;
 mod push;
-#[cfg(test)]
-mod tests;
 mod values;
 
 pub use boolean::{BooleanValues, MutableBooleanArray};

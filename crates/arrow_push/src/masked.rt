@@ -14,12 +14,21 @@ use arrow_types::{ArrowDataType, Mem, PolarsResult};
 use std::alloc::Global;
 
 /// A builder of values and nulls. It has no mask before the first null, and under each null a blank stands among the values.
-#[derive(Drop)]
 pub struct MaskedBuilder<V: ValuesBuilder> {
     values: V,
     validity: Option<MutableBitmap>,
     ghost fits: { count_or validity (length (V.seen values).slots) ≡ length (V.seen values).slots },
     ghost bare: { all_filled (V.blank (V.seen values).dtype) (with_nulls validity (V.seen values).slots) ≡ (V.seen values).slots } by { Prim.hlevel (props, slot_code) },
+}
+
+/// By hand, so that each place where a value may end has one call to prove, and not the drop of every field.
+impl<V: ValuesBuilder + Drop> Drop for MaskedBuilder<V> {
+    fn drop(self) {
+        let MaskedBuilder {
+            values: _,
+            validity: _,
+        } = self;
+    }
 }
 
 impl<V: ValuesBuilder> Building for MaskedBuilder<V> {

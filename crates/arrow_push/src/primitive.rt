@@ -15,11 +15,20 @@ use arrow_types::{ArrowDataType, Mem, PolarsResult, PrimitiveType};
 use std::alloc::Global;
 
 /// A builder of values of one width, without nulls.
-#[derive(Drop)]
 pub struct PrimitiveValues<T: NativeType> {
     dtype: ArrowDataType,
     values: Vec<T>,
     ghost stored: { physical_of (type_of dtype) ≡ Some (physical.Primitive T.PRIMITIVE) } by { Prim.hlevel (props, codes, physical_type.the_row.coded) },
+}
+
+/// By hand, so that each place where a value may end has one call to prove, and not the drop of every field.
+impl<T: NativeType> Drop for PrimitiveValues<T> {
+    fn drop(self) {
+        let PrimitiveValues {
+            dtype: _,
+            values: _,
+        } = self;
+    }
 }
 
 /// A builder of values of one width and nulls.

@@ -20,11 +20,20 @@ use arrow_types::{ArrowDataType, Mem, PolarsResult};
 use std::alloc::{AllocError, Global};
 
 /// A builder of byte strings, without nulls.
-#[derive(Drop)]
 pub struct MutableBinaryValuesArray<O: Offset> {
     dtype: ArrowDataType,
     strings: ByteStrings<O>,
     ghost stored: { physical_of (type_of dtype) ≡ Some (binary_layout O.IS_LARGE) } by { Prim.hlevel (props, codes, physical_type.the_row.coded) },
+}
+
+/// By hand, so that each place where a value may end has one call to prove, and not the drop of every field.
+impl<O: Offset> Drop for MutableBinaryValuesArray<O> {
+    fn drop(self) {
+        let MutableBinaryValuesArray {
+            dtype: _,
+            strings: _,
+        } = self;
+    }
 }
 
 /// A builder of byte strings and nulls.
@@ -134,9 +143,10 @@ impl<O: Offset> FreshValues for MutableBinaryValuesArray<O> {
     ghost plain_type = { plain_binary O.IS_LARGE };
 
     fn fresh(alloc: Global) -> Mem<MutableBinaryValuesArray<O>> {
+        let strings = ByteStrings::new(alloc)?;
         Ok(MutableBinaryValuesArray {
             dtype: binary_type(O::IS_LARGE),
-            strings: ByteStrings::new(alloc)?,
+            strings,
         })
     }
 }

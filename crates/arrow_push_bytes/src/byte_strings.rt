@@ -12,10 +12,19 @@ use std::alloc::Global;
 use std::marker::Model;
 
 /// Byte strings that grow at their end, seen as their list: offsets, and the bytes of all strings one behind another.
-#[derive(Drop)]
 pub struct ByteStrings<O: Offset> {
     offsets: Offsets<O>,
     bytes: Vec<u8>,
+}
+
+/// By hand, so that each place where a value may end has one call to prove, and not the drop of every field.
+impl<O: Offset> Drop for ByteStrings<O> {
+    fn drop(self) {
+        let ByteStrings {
+            offsets: _,
+            bytes: _,
+        } = self;
+    }
 }
 
 impl<O: Offset> Model for ByteStrings<O> {
@@ -171,10 +180,11 @@ impl<O: Offset> ByteStrings<O> {
         ensures slots { IfOk result (λ p. count p.0 ≡ count self + 1) }
         ensures end { IfOk result (λ p. end_of (map O.number p.0) ≡ count p.1) }
     {
-        let alloc = *self.bytes.allocator();
-        self.offsets.len_proxy();
-        let offsets = self.offsets.freeze()?;
-        Ok((offsets, Buffer::from_vec(alloc, self.bytes)?))
+        let ByteStrings { offsets, bytes } = self;
+        let alloc = *bytes.allocator();
+        offsets.len_proxy();
+        let offsets = offsets.freeze()?;
+        Ok((offsets, Buffer::from_vec(alloc, bytes)?))
     }
 }
 

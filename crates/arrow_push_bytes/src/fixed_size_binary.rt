@@ -17,7 +17,6 @@ use arrow_types::{ArrowDataType, Mem, PolarsError, PolarsResult, Reason};
 use std::alloc::{AllocError, Global};
 
 /// A builder of byte strings of one size, without nulls.
-#[derive(Drop)]
 pub struct FixedSizeBinaryValues {
     dtype: ArrowDataType,
     size: usize,
@@ -25,6 +24,17 @@ pub struct FixedSizeBinaryValues {
     ghost sized: { size_of (type_of dtype) ≡ Some size } by { Prim.hlevel (props, codes) },
     ghost positive: { 0 < size },
     ghost multiple: { count values.items % size ≡ 0 },
+}
+
+/// By hand, so that each place where a value may end has one call to prove, and not the drop of every field.
+impl Drop for FixedSizeBinaryValues {
+    fn drop(self) {
+        let FixedSizeBinaryValues {
+            dtype: _,
+            size: _,
+            values: _,
+        } = self;
+    }
 }
 
 /// A builder of byte strings of one size and nulls.

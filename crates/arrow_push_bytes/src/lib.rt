@@ -4,8 +4,6 @@
 mod binary;
 mod byte_strings;
 mod fixed_size_binary;
-#[cfg(test)]
-mod tests;
 mod utf8;
 
 pub use binary::{MutableBinaryArray, MutableBinaryValuesArray};

@@ -18,10 +18,19 @@ use std::alloc::{AllocError, Global};
 use std::marker::Model;
 
 /// A builder of texts, without nulls, seen as its type and the bytes of each text.
-#[derive(Drop)]
 pub struct MutableUtf8ValuesArray<O: Offset> {
     dtype: ArrowDataType,
     strings: ByteStrings<O>,
+}
+
+/// By hand, so that each place where a value may end has one call to prove, and not the drop of every field.
+impl<O: Offset> Drop for MutableUtf8ValuesArray<O> {
+    fn drop(self) {
+        let MutableUtf8ValuesArray {
+            dtype: _,
+            strings: _,
+        } = self;
+    }
 }
 
 impl<O: Offset> Model for MutableUtf8ValuesArray<O> {
@@ -146,9 +155,10 @@ impl<O: Offset> FreshValues for MutableUtf8ValuesArray<O> {
     ghost plain_type = { plain_text O.IS_LARGE };
 
     fn fresh(alloc: Global) -> Mem<MutableUtf8ValuesArray<O>> {
+        let strings = ByteStrings::new(alloc)?;
         Ok(MutableUtf8ValuesArray {
             dtype: text_type(O::IS_LARGE),
-            strings: ByteStrings::new(alloc)?,
+            strings,
         })
     }
 }

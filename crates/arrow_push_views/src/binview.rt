@@ -21,11 +21,21 @@ use std::marker::{Model, PhantomData};
 const MOST_BYTES: usize = 1 << 62;
 
 /// A builder of byte strings or texts, without nulls, of which an array of views is made: seen as its type and the values.
-#[derive(Drop)]
 pub struct ViewValues<T: ViewType> {
     dtype: ArrowDataType,
     strings: ByteStrings<i64>,
     kind: PhantomData<T>,
+}
+
+/// By hand, so that each place where a value may end has one call to prove, and not the drop of every field.
+impl<T: ViewType> Drop for ViewValues<T> {
+    fn drop(self) {
+        let ViewValues {
+            dtype: _,
+            strings: _,
+            kind: _,
+        } = self;
+    }
 }
 
 /// A builder of byte strings or texts and nulls, of which an array of views is made.
@@ -171,9 +181,10 @@ impl<T: ViewType> FreshValues for ViewValues<T> {
     ghost plain_type = { plain_type_of T.IS_TEXT };
 
     fn fresh(alloc: Global) -> Mem<ViewValues<T>> {
+        let strings = ByteStrings::new(alloc)?;
         Ok(ViewValues {
             dtype: plain_type(T::IS_TEXT),
-            strings: ByteStrings::new(alloc)?,
+            strings,
             kind: PhantomData,
         })
     }

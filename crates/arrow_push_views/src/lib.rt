@@ -4,8 +4,6 @@
 mod binview;
 mod extend;
 mod packed;
-#[cfg(test)]
-mod tests;
 
 pub use binview::{MutableBinaryViewArray, ViewValues};
 pub use extend::ExtendFromLengths;

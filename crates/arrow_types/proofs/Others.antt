@@ -1,9 +1,9 @@
 -- What the definitions say where the match has named each other variant.
-use Rattle.std.proofs.Common.{◌≡◌, ℕ, Bool, false, None, refl, sym}
+use Rattle.std.proofs.Common.{◌≡◌, ℕ, Bool, false, Option, Some, None, refl, sym}
 use Rattle.arrow_types.specs.TypeData.{TypeData, type_of}
 use Rattle.arrow_types.specs.TypeData as T
 use Rattle.arrow_types.specs.Seen.{seen, back, back_field, back_fields}
-use Rattle.arrow_types.specs.Types.{is_nested, is_view, is_numeric, contains_dictionary, child_of, logical_of}
+use Rattle.arrow_types.specs.Types.{is_nested, is_view, is_numeric, contains_dictionary, child_of, logical_of, underlying}
 use Rattle.arrow_types.proofs.Back.{back-seen}
 use Rattle.std.specs.Prelude.{option_map}
 use Rattle.arrow_types.specs.declared.datatype.ArrowDataType.{ArrowDataType}
@@ -12,6 +12,8 @@ use Rattle.arrow_types.specs.declared.datatype.ExtensionType.{ExtensionType}
 use Rattle.arrow_types.specs.declared.datatype.Field.{Field}
 use Rattle.arrow_types.specs.declared.datatype.UnionType.{UnionType, roll-UnionType}
 use Rattle.arrow_types.specs.declared.datatype.IntegerType.{IntegerType}
+use Rattle.arrow_types.specs.declared.datatype.IntervalUnit.{IntervalUnit}
+use Rattle.arrow_types.specs.declared.datatype.TimeUnit.{TimeUnit}
 use Rattle.std.specs.Prelude.{List}
 
 module _ (t : ArrowDataType) (list : (f : Field) → t ≡ A.List f → ⊥) (large : (f : Field) → t ≡ A.LargeList f → ⊥) (fixed : (f : Field) (k : ℕ) → t ≡ A.FixedSizeList f k → ⊥) where
@@ -89,3 +91,25 @@ module _ (t : ArrowDataType) (int8 : t ≡ A.Int8 → ⊥) (int16 : t ≡ A.Int1
 
   pub numeric_other : false ≡ is_numeric (seen t)
   numeric_other = numeric_by (seen t) (back-seen t)
+
+module _ (t : ArrowDataType) (timestamp : (u : TimeUnit) (z : Option (List ℕ)) → t ≡ A.Timestamp u z → ⊥) (date32 : t ≡ A.Date32 → ⊥) (date64 : t ≡ A.Date64 → ⊥) (time32 : (u : TimeUnit) → t ≡ A.Time32 u → ⊥) (time64 : (u : TimeUnit) → t ≡ A.Time64 u → ⊥) (duration : (u : TimeUnit) → t ≡ A.Duration u → ⊥) (interval : (i : IntervalUnit) → t ≡ A.Interval i → ⊥) (list : (f : Field) → t ≡ A.List f → ⊥) (large : (f : Field) → t ≡ A.LargeList f → ⊥) (fixed : (f : Field) (k : ℕ) → t ≡ A.FixedSizeList f k → ⊥) (struct : (fs : List Field) → t ≡ A.Struct fs → ⊥) (map : (f : Field) (o : Bool) → t ≡ A.Map f o → ⊥) (union : (u : UnionType) → t ≡ A.Union u → ⊥) (dictionary : (k : IntegerType) (v : ArrowDataType) (o : Bool) → t ≡ A.Dictionary k v o → ⊥) (extension : (e : ExtensionType) → t ≡ A.Extension e → ⊥) where
+  underlying_by : (s : TypeData) → back s ≡ t → Some s ≡ underlying s
+  underlying_by (T.timestamp u z) e = absurd (timestamp u z (sym e))
+  underlying_by T.date32 e = absurd (date32 (sym e))
+  underlying_by T.date64 e = absurd (date64 (sym e))
+  underlying_by (T.time32 u) e = absurd (time32 u (sym e))
+  underlying_by (T.time64 u) e = absurd (time64 u (sym e))
+  underlying_by (T.duration u) e = absurd (duration u (sym e))
+  underlying_by (T.interval i) e = absurd (interval i (sym e))
+  underlying_by (T.list f) e = absurd (list (back_field f) (sym e))
+  underlying_by (T.large_list f) e = absurd (large (back_field f) (sym e))
+  underlying_by (T.fixed_size_list f k) e = absurd (fixed (back_field f) k (sym e))
+  underlying_by (T.struct fs) e = absurd (struct (back_fields fs) (sym e))
+  underlying_by (T.map f o) e = absurd (map (back_field f) o (sym e))
+  underlying_by (T.union fs is d) e = absurd (union (roll-UnionType record { fields = back_fields fs; ids = is; mode = d }) (sym e))
+  underlying_by (T.dictionary k v o) e = absurd (dictionary k (back v) o (sym e))
+  underlying_by (T.extension n v m) e = absurd (extension record { name = n; inner = back v; metadata = m } (sym e))
+  underlying_by _ e = refl
+
+  pub underlying_other : Some (seen t) ≡ underlying (seen t)
+  underlying_other = underlying_by (seen t) (back-seen t)

@@ -94,11 +94,21 @@ impl Field {
     pub fn try_clone(&self, alloc: Global) -> Mem<Field>
         ensures { IfOk result (λ f. f ≡ self.now) }
     {
+        let dtype = self.dtype.try_clone(alloc)?;
+        self.with_dtype(alloc, dtype)
+    }
+
+    /// The field with another type.
+    pub(crate) fn with_dtype(&self, alloc: Global, dtype: ArrowDataType) -> Mem<Field>
+        ensures { IfOk result (λ f. f ≡ record { name = self.now.name; dtype = dtype; is_nullable = self.now.is_nullable; metadata = self.now.metadata }) }
+    {
+        let name = self.name.try_clone(alloc)?;
+        let metadata = clone_metadata(alloc, &self.metadata)?;
         Ok(Field {
-            name: self.name.try_clone(alloc)?,
-            dtype: self.dtype.try_clone(alloc)?,
+            name,
+            dtype,
             is_nullable: self.is_nullable,
-            metadata: clone_metadata(alloc, &self.metadata)?,
+            metadata,
         })
     }
 }
@@ -168,10 +178,7 @@ fn clone_text(alloc: Global, text: &Option<PlSmallStr>) -> Mem<Option<PlSmallStr
     }
 }
 
-pub(crate) fn clone_metadata(
-    alloc: Global,
-    metadata: &Option<SharedMetadata>,
-) -> Mem<Option<SharedMetadata>>
+fn clone_metadata(alloc: Global, metadata: &Option<SharedMetadata>) -> Mem<Option<SharedMetadata>>
     ensures { IfOk result (λ o. o ≡ metadata.now) }
 {
     match metadata {

@@ -7,7 +7,6 @@ use crate::datatype::{ArrowDataType, Field};
 impl ArrowDataType {
     /// Whether a dictionary stands in the type at any depth.
     #[cycle(dictionary)]
-    #[tactic(auto, using(crate::proofs::SeenAt::seen_rules, crate::proofs::Others::dictionary_other))]
     pub fn contains_dictionary(&self) -> bool
         ensures { result ≡ contains_dictionary (seen self.now) }
     {
@@ -26,7 +25,6 @@ impl ArrowDataType {
 }
 
 #[cycle(dictionary)]
-#[tactic(auto, using(crate::proofs::SeenAt::seen_rules, crate::proofs::Others::dictionary_other))]
 fn any_dictionary(fields: &[Field]) -> bool
     ensures { result ≡ any_dictionary (seen_fields fields.now) }
 {

@@ -5,7 +5,8 @@ ghost use Rattle.arrow_types.specs.declared.error.MakeError.TheVariants as make;
 ghost use Rattle.arrow_types.specs.declared.error.PolarsError.TheVariants as polars;
 
 use std::alloc::{AllocError, AllocFailed, Global};
-use thiserror::Error;
+use std::error::Error;
+use std::fmt;
 
 /// The answer of a call whose only refusal is want of memory.
 pub type Mem<T> = Result<T, AllocError>;
@@ -93,81 +94,104 @@ pub enum Reason {
 }
 
 /// Why a call refused what it was given.
-#[derive(Clone, Copy, Debug, PartialEq, Eq, Error)]
+#[derive(Clone, Copy, Debug, PartialEq, Eq)]
 pub enum PolarsError {
     /// The parts don't fit together.
-    #[error("ComputeError")]
     ComputeError(Reason),
     /// The call isn't meant for what it was given.
-    #[error("InvalidOperation")]
     InvalidOperation(Reason),
     /// The type has no arrays here.
-    #[error("Unsupported")]
     Unsupported,
     /// There was no memory.
-    #[error("OutOfMemory")]
     OutOfMemory,
 }
 
 /// Why a growable couldn't be made.
-#[derive(Clone, Copy, Debug, PartialEq, Eq, Error)]
+#[derive(Clone, Copy, Debug, PartialEq, Eq)]
 pub enum MakeError {
     /// There is no array.
-    #[error("NoArrays")]
     NoArrays,
     /// A whole type differs from the first.
-    #[error("DtypeMismatch")]
     DtypeMismatch,
     /// The type can't grow.
-    #[error("Unsupported")]
     Unsupported,
     /// The values of a dictionary together pass the key capacity.
-    #[error("KeyOverflow")]
     KeyOverflow,
     /// The joined values don't fit.
-    #[error("Overflow")]
     Overflow,
     /// There was no memory.
-    #[error("OutOfMemory")]
     OutOfMemory,
 }
 
 /// Why a growable refused to grow.
-#[derive(Clone, Copy, Debug, PartialEq, Eq, Error)]
+#[derive(Clone, Copy, Debug, PartialEq, Eq)]
 pub enum GrowError {
     /// A length or an offset passes what its type holds.
-    #[error("Overflow")]
     Overflow,
     /// There was no memory.
-    #[error("OutOfMemory")]
     OutOfMemory,
 }
 
 /// Why slots couldn't be gathered.
-#[derive(Clone, Copy, Debug, PartialEq, Eq, Error)]
+#[derive(Clone, Copy, Debug, PartialEq, Eq)]
 pub enum GatherError {
     /// There is no array.
-    #[error("NoArrays")]
     NoArrays,
     /// A whole type differs from the first.
-    #[error("DtypeMismatch")]
     DtypeMismatch,
     /// The type can't grow.
-    #[error("Unsupported")]
     Unsupported,
     /// A piece names no array, or ends past its array.
-    #[error("OutOfBounds")]
     OutOfBounds,
     /// The values of a dictionary together pass the key capacity.
-    #[error("KeyOverflow")]
     KeyOverflow,
     /// The joined values, or the taken slots, don't fit.
-    #[error("Overflow")]
     Overflow,
     /// There was no memory.
-    #[error("OutOfMemory")]
     OutOfMemory,
 }
+
+/// The name of the variant.
+impl fmt::Display for PolarsError {
+    fn fmt<W: fmt::Write>(&self, f: &mut fmt::Formatter<W>) -> fmt::Result {
+        let name = match self {
+            PolarsError::ComputeError(_) => "ComputeError",
+            PolarsError::InvalidOperation(_) => "InvalidOperation",
+            PolarsError::Unsupported => "Unsupported",
+            PolarsError::OutOfMemory => "OutOfMemory",
+        };
+        write!(f, "{name}")
+    }
+}
+
+impl Error for PolarsError {}
+
+/// The name of the variant.
+impl fmt::Display for MakeError {
+    fn fmt<W: fmt::Write>(&self, f: &mut fmt::Formatter<W>) -> fmt::Result {
+        write!(f, "{self:?}")
+    }
+}
+
+impl Error for MakeError {}
+
+/// The name of the variant.
+impl fmt::Display for GrowError {
+    fn fmt<W: fmt::Write>(&self, f: &mut fmt::Formatter<W>) -> fmt::Result {
+        write!(f, "{self:?}")
+    }
+}
+
+impl Error for GrowError {}
+
+/// The name of the variant.
+impl fmt::Display for GatherError {
+    fn fmt<W: fmt::Write>(&self, f: &mut fmt::Formatter<W>) -> fmt::Result {
+        write!(f, "{self:?}")
+    }
+}
+
+impl Error for GatherError {}
 
 impl PolarsError {
     /// The same error; takes no memory.

@@ -1,155 +1,83 @@
-ghost use Rattle.std.specs.Prelude.{◌≡◌, fold};
+ghost use Rattle.std.specs.Prelude.{◌≡◌, true, false, fold};
 ghost use Rattle.std.specs.Hash as fed;
 ghost use Rattle.std.specs.Hash.{on_Alike, same_Alike};
 ghost use Rattle.arrow_types.specs.Seen.{seen, seen_field, seen_fields, seen_union, seen_extension};
 ghost use Rattle.arrow_types.specs.TypeEq.{unit_number, interval_number, integer_number, mode_number};
-ghost use Rattle.arrow_types.specs.TypeData as T;
 ghost use Rattle.arrow_types.specs.TypeExact.{types_decide, fields_decide};
-ghost use Rattle.arrow_types.specs.TypeWrites.{type_writes, field_writes, fields_writes};
+ghost use Rattle.arrow_types.specs.Types.{is_nested};
+ghost use Rattle.arrow_types.specs.TypeWrites.{type_writes, parts_writes, field_writes, fields_writes};
 
 use crate::datatype::{
     ArrowDataType, ExtensionType, Field, Ids, IntegerType, IntervalUnit, TimeUnit, UnionMode,
     UnionType,
 };
+use crate::variant::variant_number;
 use std::hash::{Hash, Hasher};
 
+/// The numbers of the variants `Union` and `Extension`, which precede their parts in a hash.
+const UNION_NUMBER: u8 = 33;
+
+const EXTENSION_NUMBER: u8 = 37;
+
 #[cycle(hash)]
-#[tactic(auto, using(crate::proofs::SeenAt::seen_rules))]
 fn hash_type<H: Hasher>(t: &ArrowDataType, state: &mut H)
     ensures { state.new ≡ fold H.write state.old (type_writes (seen t.now)) }
 {
+    state.write_u8(variant_number(t));
+    if t.is_nested() {
+        hash_nested(t, state);
+    } else {
+        hash_plain(t, state);
+    }
+}
+
+/// Hashes the parts of a nested type.
+#[cycle(hash)]
+fn hash_nested<H: Hasher>(t: &ArrowDataType, state: &mut H)
+    ensures { is_nested (seen t.now) ≡ true → state.new ≡ fold H.write state.old (parts_writes (seen t.now)) }
+{
     match t {
-        ArrowDataType::Null => {
-            state.write_u8(0);
-        }
-        ArrowDataType::Boolean => {
-            state.write_u8(1);
-        }
-        ArrowDataType::Int8 => {
-            state.write_u8(2);
-        }
-        ArrowDataType::Int16 => {
-            state.write_u8(3);
-        }
-        ArrowDataType::Int32 => {
-            state.write_u8(4);
-        }
-        ArrowDataType::Int64 => {
-            state.write_u8(5);
-        }
-        ArrowDataType::Int128 => {
-            state.write_u8(6);
-        }
-        ArrowDataType::UInt8 => {
-            state.write_u8(7);
-        }
-        ArrowDataType::UInt16 => {
-            state.write_u8(8);
-        }
-        ArrowDataType::UInt32 => {
-            state.write_u8(9);
-        }
-        ArrowDataType::UInt64 => {
-            state.write_u8(10);
-        }
-        ArrowDataType::Float16 => {
-            state.write_u8(11);
-        }
-        ArrowDataType::Float32 => {
-            state.write_u8(12);
-        }
-        ArrowDataType::Float64 => {
-            state.write_u8(13);
-        }
-        ArrowDataType::Timestamp(unit, zone) => {
-            state.write_u8(14);
-            state.write_u8(unit_number(*unit));
-            zone.hash(state);
-        }
-        ArrowDataType::Date32 => {
-            state.write_u8(15);
-        }
-        ArrowDataType::Date64 => {
-            state.write_u8(16);
-        }
-        ArrowDataType::Time32(unit) => {
-            state.write_u8(17);
-            state.write_u8(unit_number(*unit));
-        }
-        ArrowDataType::Time64(unit) => {
-            state.write_u8(18);
-            state.write_u8(unit_number(*unit));
-        }
-        ArrowDataType::Duration(unit) => {
-            state.write_u8(19);
-            state.write_u8(unit_number(*unit));
-        }
-        ArrowDataType::Interval(interval) => {
-            state.write_u8(20);
-            state.write_u8(interval_number(*interval));
-        }
-        ArrowDataType::Binary => {
-            state.write_u8(21);
-        }
-        ArrowDataType::FixedSizeBinary(size) => {
-            state.write_u8(22);
-            size.hash(state);
-        }
-        ArrowDataType::LargeBinary => {
-            state.write_u8(23);
-        }
-        ArrowDataType::Utf8 => {
-            state.write_u8(24);
-        }
-        ArrowDataType::LargeUtf8 => {
-            state.write_u8(25);
-        }
-        ArrowDataType::BinaryView => {
-            state.write_u8(26);
-        }
-        ArrowDataType::Utf8View => {
-            state.write_u8(27);
-        }
-        ArrowDataType::List(field) => {
-            state.write_u8(28);
-            hash_field(field.get(), state);
-        }
-        ArrowDataType::LargeList(field) => {
-            state.write_u8(29);
+        ArrowDataType::List(field) | ArrowDataType::LargeList(field) => {
             hash_field(field.get(), state);
         }
         ArrowDataType::FixedSizeList(field, size) => {
-            hash_fixed_size_list(field.get(), *size, state);
+            hash_field(field.get(), state);
+            size.hash(state);
         }
-        ArrowDataType::Struct(fields) => {
-            state.write_u8(31);
-            hash_fields(fields.as_slice(), state);
-        }
+        ArrowDataType::Struct(fields) => hash_fields(fields.as_slice(), state),
         ArrowDataType::Map(field, is_sorted) => {
-            hash_map(field.get(), *is_sorted, state);
+            hash_field(field.get(), state);
+            is_sorted.hash(state);
         }
-        ArrowDataType::Union(union) => {
-            hash_union(union.get(), state);
-        }
+        ArrowDataType::Union(union) => hash_union(union.get(), state),
         ArrowDataType::Dictionary(key, values, is_ordered) => {
-            hash_dictionary(*key, values.get(), *is_ordered, state);
+            state.write_u8(integer_number(*key));
+            hash_type(values.get(), state);
+            is_ordered.hash(state);
         }
-        ArrowDataType::Decimal(precision, scale) => {
-            state.write_u8(35);
+        ArrowDataType::Extension(extension) => hash_extension(extension.get(), state),
+        _ => {}
+    }
+}
+
+/// Hashes the parts of a type that isn't nested.
+fn hash_plain<H: Hasher>(t: &ArrowDataType, state: &mut H)
+    ensures { is_nested (seen t.now) ≡ false → state.new ≡ fold H.write state.old (parts_writes (seen t.now)) }
+{
+    match t {
+        ArrowDataType::Timestamp(unit, zone) => {
+            state.write_u8(unit_number(*unit));
+            zone.hash(state);
+        }
+        ArrowDataType::Time32(unit) | ArrowDataType::Time64(unit) | ArrowDataType::Duration(unit) =>
+            state.write_u8(unit_number(*unit)),
+        ArrowDataType::Interval(interval) => state.write_u8(interval_number(*interval)),
+        ArrowDataType::FixedSizeBinary(size) => size.hash(state),
+        ArrowDataType::Decimal(precision, scale) | ArrowDataType::Decimal256(precision, scale) => {
             precision.hash(state);
             scale.hash(state);
         }
-        ArrowDataType::Decimal256(precision, scale) => {
-            state.write_u8(36);
-            precision.hash(state);
-            scale.hash(state);
-        }
-        ArrowDataType::Extension(extension) => {
-            hash_extension(extension.get(), state);
-        }
-        ArrowDataType::Unknown => {
-            state.write_u8(38);
-        }
+        _ => {}
     }
 }
 
@@ -161,39 +89,6 @@ fn hash_field<H: Hasher>(field: &Field, state: &mut H)
     hash_type(&field.dtype, state);
     field.is_nullable.hash(state);
     field.metadata.hash(state);
-}
-
-#[cycle(hash)]
-fn hash_fixed_size_list<H: Hasher>(field: &Field, size: usize, state: &mut H)
-    ensures { state.new ≡ fold H.write state.old (type_writes (T.fixed_size_list (seen_field field.now) size)) }
-{
-    state.write_u8(30);
-    hash_field(field, state);
-    size.hash(state);
-}
-
-#[cycle(hash)]
-fn hash_map<H: Hasher>(field: &Field, is_sorted: bool, state: &mut H)
-    ensures { state.new ≡ fold H.write state.old (type_writes (T.map (seen_field field.now) is_sorted)) }
-{
-    state.write_u8(32);
-    hash_field(field, state);
-    is_sorted.hash(state);
-}
-
-#[cycle(hash)]
-fn hash_dictionary<H: Hasher>(
-    key: IntegerType,
-    values: &ArrowDataType,
-    is_ordered: bool,
-    state: &mut H,
-)
-    ensures { state.new ≡ fold H.write state.old (type_writes (T.dictionary key (seen values.now) is_ordered)) }
-{
-    state.write_u8(34);
-    state.write_u8(integer_number(key));
-    hash_type(values, state);
-    is_ordered.hash(state);
 }
 
 #[cycle(hash)]
@@ -209,9 +104,8 @@ pub(crate) fn hash_fields<H: Hasher>(fields: &[Field], state: &mut H)
 
 #[cycle(hash)]
 fn hash_union<H: Hasher>(union: &UnionType, state: &mut H)
-    ensures { state.new ≡ fold H.write state.old (type_writes (seen_union union.now)) }
+    ensures { state.new ≡ fold H.write state.old (parts_writes (seen_union union.now)) }
 {
-    state.write_u8(33);
     hash_fields(union.fields.as_slice(), state);
     hash_ids(&union.ids, state);
     state.write_u8(mode_number(union.mode));
@@ -219,9 +113,8 @@ fn hash_union<H: Hasher>(union: &UnionType, state: &mut H)
 
 #[cycle(hash)]
 fn hash_extension<H: Hasher>(extension: &ExtensionType, state: &mut H)
-    ensures { state.new ≡ fold H.write state.old (type_writes (seen_extension extension.now)) }
+    ensures { state.new ≡ fold H.write state.old (parts_writes (seen_extension extension.now)) }
 {
-    state.write_u8(37);
     extension.name.hash(state);
     hash_type(&extension.inner, state);
     extension.metadata.hash(state);
@@ -311,6 +204,7 @@ impl Hash for UnionType {
     ghost respects_eq = { (on_Alike seen_union (same_Alike type_writes types_decide)).fed };
 
     fn hash<H: Hasher>(&self, state: &mut H) {
+        state.write_u8(UNION_NUMBER);
         hash_union(self, state);
     }
 }
@@ -321,6 +215,7 @@ impl Hash for ExtensionType {
     ghost respects_eq = { (on_Alike seen_extension (same_Alike type_writes types_decide)).fed };
 
     fn hash<H: Hasher>(&self, state: &mut H) {
+        state.write_u8(EXTENSION_NUMBER);
         hash_extension(self, state);
     }
 }

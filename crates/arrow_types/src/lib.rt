@@ -14,9 +14,8 @@ mod physical;
 mod reshape;
 mod same;
 mod schema;
-#[cfg(test)]
-mod tests;
 mod text;
+mod variant;
 
 pub use copy::clone_fields;
 pub use datatype::{

@@ -37,7 +37,6 @@ impl ArrowDataType {
     }
 
     /// Whether other types stand inside: lists, structs, unions, maps, dictionaries and extensions.
-    #[tactic(auto, using(crate::proofs::SeenAt::seen_rules, crate::proofs::Others::nested_other))]
     pub fn is_nested(&self) -> bool
         ensures { result ≡ is_nested (seen self.now) }
     {
@@ -55,7 +54,6 @@ impl ArrowDataType {
     }
 
     /// Whether it is `Utf8View` or `BinaryView`.
-    #[tactic(auto, using(crate::proofs::SeenAt::seen_rules, crate::proofs::Others::view_other))]
     pub fn is_view(&self) -> bool
         ensures { result ≡ is_view (seen self.now) }
     {
@@ -63,7 +61,6 @@ impl ArrowDataType {
     }
 
     /// Whether it is a type of integers, `Float32`, `Float64` or a type of decimals.
-    #[tactic(auto, using(crate::proofs::SeenAt::seen_rules, crate::proofs::Others::numeric_other))]
     pub fn is_numeric(&self) -> bool
         ensures { result ≡ is_numeric (seen self.now) }
     {
@@ -101,7 +98,6 @@ impl ArrowDataType {
     }
 
     /// The plain type of such numbers; None for `UInt128`, which no type has.
-    #[tactic(auto, using(crate::proofs::SeenAt::seen_rules))]
     pub fn from_primitive(p: PrimitiveType) -> Option<ArrowDataType>
         ensures { option_map seen result ≡ primitive_type p }
     {

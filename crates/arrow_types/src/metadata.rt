@@ -18,9 +18,16 @@ use std::rc::Rc;
 pub type Metadata = BTreeMap<PlSmallStr, PlSmallStr>;
 
 /// A map that its copies share. A contract sees its entries, in the order of the keys.
-#[derive(Debug, Drop)]
+#[derive(Debug)]
 pub struct SharedMetadata {
     map: Rc<Metadata>,
+}
+
+/// By hand, so that each place where a value may end has one call to prove, and not the drop of every field.
+impl Drop for SharedMetadata {
+    fn drop(self) {
+        let SharedMetadata { map: _ } = self;
+    }
 }
 
 impl Model for SharedMetadata {

@@ -2,7 +2,6 @@ ghost use Rattle.std.specs.Prelude.{◌≡◌, ◌++◌, IfOk, option_map};
 ghost use Rattle.arrow_types.specs.Seen.{seen, seen_field, seen_fields};
 ghost use Rattle.arrow_types.specs.Types.{physical_of, physical_interval, underlying_interval, integer_type, underlying, underlying_field, underlying_fields};
 
-use crate::copy::clone_metadata;
 use crate::datatype::{
     ArrowDataType, Field, Fields, IntegerType, IntervalUnit, PhysicalType, PrimitiveType,
 };
@@ -12,7 +11,6 @@ use std::alloc::Global;
 
 impl ArrowDataType {
     /// The layout of the type's columns, which for an extension is that of its inner type; None for `Unknown`.
-    #[tactic(auto, using(crate::proofs::SeenAt::seen_rules))]
     pub fn to_physical_type(&self) -> Option<PhysicalType>
         ensures { result ≡ physical_of (seen self.now) }
     {
@@ -66,50 +64,26 @@ impl ArrowDataType {
         ensures { IfOk result (λ o. option_map seen o ≡ underlying (seen self.now)) }
     {
         match self {
-            ArrowDataType::Null => Ok(Some(ArrowDataType::Null)),
-            ArrowDataType::Boolean => Ok(Some(ArrowDataType::Boolean)),
-            ArrowDataType::Int8 => Ok(Some(ArrowDataType::Int8)),
-            ArrowDataType::Int16 => Ok(Some(ArrowDataType::Int16)),
-            ArrowDataType::Int32 => Ok(Some(ArrowDataType::Int32)),
-            ArrowDataType::Int64 => Ok(Some(ArrowDataType::Int64)),
-            ArrowDataType::Int128 => Ok(Some(ArrowDataType::Int128)),
-            ArrowDataType::UInt8 => Ok(Some(ArrowDataType::UInt8)),
-            ArrowDataType::UInt16 => Ok(Some(ArrowDataType::UInt16)),
-            ArrowDataType::UInt32 => Ok(Some(ArrowDataType::UInt32)),
-            ArrowDataType::UInt64 => Ok(Some(ArrowDataType::UInt64)),
-            ArrowDataType::Float16 => Ok(Some(ArrowDataType::Float16)),
-            ArrowDataType::Float32 => Ok(Some(ArrowDataType::Float32)),
-            ArrowDataType::Float64 => Ok(Some(ArrowDataType::Float64)),
-            ArrowDataType::Timestamp(_, _) => Ok(Some(ArrowDataType::Int64)),
             ArrowDataType::Date32 => Ok(Some(ArrowDataType::Int32)),
-            ArrowDataType::Date64 => Ok(Some(ArrowDataType::Int64)),
             ArrowDataType::Time32(_) => Ok(Some(ArrowDataType::Int32)),
+            ArrowDataType::Timestamp(_, _) => Ok(Some(ArrowDataType::Int64)),
+            ArrowDataType::Date64 => Ok(Some(ArrowDataType::Int64)),
             ArrowDataType::Time64(_) => Ok(Some(ArrowDataType::Int64)),
             ArrowDataType::Duration(_) => Ok(Some(ArrowDataType::Int64)),
             ArrowDataType::Interval(interval) => Ok(underlying_interval(*interval)),
-            ArrowDataType::Binary => Ok(Some(ArrowDataType::Binary)),
-            ArrowDataType::FixedSizeBinary(size) => Ok(Some(ArrowDataType::FixedSizeBinary(*size))),
-            ArrowDataType::LargeBinary => Ok(Some(ArrowDataType::LargeBinary)),
-            ArrowDataType::Utf8 => Ok(Some(ArrowDataType::Utf8)),
-            ArrowDataType::LargeUtf8 => Ok(Some(ArrowDataType::LargeUtf8)),
-            ArrowDataType::BinaryView => Ok(Some(ArrowDataType::BinaryView)),
-            ArrowDataType::Utf8View => Ok(Some(ArrowDataType::Utf8View)),
-            ArrowDataType::List(field) => match underlying_field(alloc, field.get())? {
-                Some(field) => Ok(Some(ArrowDataType::List(Boxed::new(alloc, field)?))),
+            ArrowDataType::List(field) => match underlying_item(alloc, field.get())? {
+                Some(item) => Ok(Some(ArrowDataType::List(item))),
                 None => Ok(None),
             },
-            ArrowDataType::LargeList(field) => match underlying_field(alloc, field.get())? {
-                Some(field) => Ok(Some(ArrowDataType::LargeList(Boxed::new(alloc, field)?))),
+            ArrowDataType::LargeList(field) => match underlying_item(alloc, field.get())? {
+                Some(item) => Ok(Some(ArrowDataType::LargeList(item))),
                 None => Ok(None),
             },
-            ArrowDataType::FixedSizeList(field, size) => match underlying_field(
+            ArrowDataType::FixedSizeList(field, size) => match underlying_item(
                 alloc,
                 field.get(),
             )? {
-                Some(field) => Ok(Some(ArrowDataType::FixedSizeList(
-                    Boxed::new(alloc, field)?,
-                    *size,
-                ))),
+                Some(item) => Ok(Some(ArrowDataType::FixedSizeList(item, *size))),
                 None => Ok(None),
             },
             ArrowDataType::Struct(fields) => match underlying_fields(alloc, fields.as_slice())? {
@@ -119,18 +93,23 @@ impl ArrowDataType {
             ArrowDataType::Map(_, _) => Ok(None),
             ArrowDataType::Union(_) => Ok(None),
             ArrowDataType::Dictionary(key, _, _) => Ok(Some(ArrowDataType::from(*key))),
-            ArrowDataType::Decimal(precision, scale) => Ok(Some(ArrowDataType::Decimal(
-                *precision, *scale,
-            ))),
-            ArrowDataType::Decimal256(precision, scale) => Ok(Some(ArrowDataType::Decimal256(
-                *precision, *scale,
-            ))),
             ArrowDataType::Extension(extension) => extension
                 .get()
                 .inner
                 .underlying_physical_type(alloc),
-            ArrowDataType::Unknown => Ok(Some(ArrowDataType::Unknown)),
+            _ => Ok(Some(self.try_clone(alloc)?)),
         }
+    }
+}
+
+/// The underlying field of a list's items.
+#[cycle(underlying)]
+fn underlying_item(alloc: Global, field: &Field) -> Mem<Option<Boxed<Field>>>
+    ensures { IfOk result (λ o. option_map seen_field o ≡ underlying_field (seen_field field.now)) }
+{
+    match underlying_field(alloc, field)? {
+        Some(field) => Ok(Some(Boxed::new(alloc, field)?)),
+        None => Ok(None),
     }
 }
 
@@ -140,12 +119,7 @@ fn underlying_field(alloc: Global, field: &Field) -> Mem<Option<Field>>
     ensures { IfOk result (λ o. option_map seen_field o ≡ underlying_field (seen_field field.now)) }
 {
     match field.dtype.underlying_physical_type(alloc)? {
-        Some(dtype) => Ok(Some(Field {
-            name: field.name.try_clone(alloc)?,
-            dtype,
-            is_nullable: field.is_nullable,
-            metadata: clone_metadata(alloc, &field.metadata)?,
-        })),
+        Some(dtype) => Ok(Some(field.with_dtype(alloc, dtype)?)),
         None => Ok(None),
     }
 }

@@ -1,66 +1,36 @@
-ghost use Rattle.std.specs.Prelude.{◌≡◌, ◌↔◌, IsTrue};
+ghost use Rattle.std.specs.Prelude.{◌≡◌, ◌↔◌, IsTrue, true, false};
 ghost use Rattle.std.specs.Cmp.{partial_equiv_from_equiv, on_equiv, decided};
 ghost use Rattle.arrow_types.specs.Seen.{seen, seen_field, seen_union, seen_extension};
 ghost use Rattle.arrow_types.specs.TypeEq.{type_eq, field_eq};
 ghost use Rattle.arrow_types.specs.TypeExact.{types_decide, fields_decide};
+ghost use Rattle.arrow_types.specs.Types.{is_nested, variant_number};
 
 use crate::datatype::{ArrowDataType, ExtensionType, Field, Ids, UnionType};
 use crate::metadata::SharedMetadata;
 use crate::text::PlSmallStr;
+use crate::variant::variant_number;
 
 /// Whether two types are equal in all their parts.
 #[cycle(same)]
 pub fn is_same(a: &ArrowDataType, b: &ArrowDataType) -> bool
     ensures { IsTrue result ↔ (a.now ≡ b.now) }
 {
+    if variant_number(a) != variant_number(b) {
+        return false;
+    }
+    if a.is_nested() {
+        is_same_nested(a, b)
+    } else {
+        is_same_plain(a, b)
+    }
+}
+
+/// Whether two types of one nested variant are equal in all their parts.
+#[cycle(same)]
+fn is_same_nested(a: &ArrowDataType, b: &ArrowDataType) -> bool
+    ensures { is_nested (seen a.now) ≡ true → IsTrue result ↔ (a.now ≡ b.now) }
+{
     match a {
-        ArrowDataType::Null => matches!(b, ArrowDataType::Null),
-        ArrowDataType::Boolean => matches!(b, ArrowDataType::Boolean),
-        ArrowDataType::Int8 => matches!(b, ArrowDataType::Int8),
-        ArrowDataType::Int16 => matches!(b, ArrowDataType::Int16),
-        ArrowDataType::Int32 => matches!(b, ArrowDataType::Int32),
-        ArrowDataType::Int64 => matches!(b, ArrowDataType::Int64),
-        ArrowDataType::Int128 => matches!(b, ArrowDataType::Int128),
-        ArrowDataType::UInt8 => matches!(b, ArrowDataType::UInt8),
-        ArrowDataType::UInt16 => matches!(b, ArrowDataType::UInt16),
-        ArrowDataType::UInt32 => matches!(b, ArrowDataType::UInt32),
-        ArrowDataType::UInt64 => matches!(b, ArrowDataType::UInt64),
-        ArrowDataType::Float16 => matches!(b, ArrowDataType::Float16),
-        ArrowDataType::Float32 => matches!(b, ArrowDataType::Float32),
-        ArrowDataType::Float64 => matches!(b, ArrowDataType::Float64),
-        ArrowDataType::Timestamp(unit, zone) => match b {
-            ArrowDataType::Timestamp(other_unit, other_zone) => *unit == *other_unit
-                && is_same_text(zone, other_zone),
-            _ => false,
-        },
-        ArrowDataType::Date32 => matches!(b, ArrowDataType::Date32),
-        ArrowDataType::Date64 => matches!(b, ArrowDataType::Date64),
-        ArrowDataType::Time32(unit) => match b {
-            ArrowDataType::Time32(other_unit) => *unit == *other_unit,
-            _ => false,
-        },
-        ArrowDataType::Time64(unit) => match b {
-            ArrowDataType::Time64(other_unit) => *unit == *other_unit,
-            _ => false,
-        },
-        ArrowDataType::Duration(unit) => match b {
-            ArrowDataType::Duration(other_unit) => *unit == *other_unit,
-            _ => false,
-        },
-        ArrowDataType::Interval(interval) => match b {
-            ArrowDataType::Interval(other_interval) => *interval == *other_interval,
-            _ => false,
-        },
-        ArrowDataType::Binary => matches!(b, ArrowDataType::Binary),
-        ArrowDataType::FixedSizeBinary(size) => match b {
-            ArrowDataType::FixedSizeBinary(other_size) => *size == *other_size,
-            _ => false,
-        },
-        ArrowDataType::LargeBinary => matches!(b, ArrowDataType::LargeBinary),
-        ArrowDataType::Utf8 => matches!(b, ArrowDataType::Utf8),
-        ArrowDataType::LargeUtf8 => matches!(b, ArrowDataType::LargeUtf8),
-        ArrowDataType::BinaryView => matches!(b, ArrowDataType::BinaryView),
-        ArrowDataType::Utf8View => matches!(b, ArrowDataType::Utf8View),
         ArrowDataType::List(field) => match b {
             ArrowDataType::List(other_field) => is_same_field(field.get(), other_field.get()),
             _ => false,
@@ -97,6 +67,47 @@ pub fn is_same(a: &ArrowDataType, b: &ArrowDataType) -> bool
                 && is_same(values.get(), other_values.get()),
             _ => false,
         },
+        ArrowDataType::Extension(extension) => match b {
+            ArrowDataType::Extension(other_extension) => is_same_extension(
+                extension.get(),
+                other_extension.get(),
+            ),
+            _ => false,
+        },
+        _ => false,
+    }
+}
+
+/// Whether two types of one variant that isn't nested are equal in all their parts.
+fn is_same_plain(a: &ArrowDataType, b: &ArrowDataType) -> bool
+    ensures { is_nested (seen a.now) ≡ false → variant_number (seen a.now) ≡ variant_number (seen b.now) → IsTrue result ↔ (a.now ≡ b.now) }
+{
+    match a {
+        ArrowDataType::Timestamp(unit, zone) => match b {
+            ArrowDataType::Timestamp(other_unit, other_zone) => *unit == *other_unit
+                && is_same_text(zone, other_zone),
+            _ => false,
+        },
+        ArrowDataType::Time32(unit) => match b {
+            ArrowDataType::Time32(other_unit) => *unit == *other_unit,
+            _ => false,
+        },
+        ArrowDataType::Time64(unit) => match b {
+            ArrowDataType::Time64(other_unit) => *unit == *other_unit,
+            _ => false,
+        },
+        ArrowDataType::Duration(unit) => match b {
+            ArrowDataType::Duration(other_unit) => *unit == *other_unit,
+            _ => false,
+        },
+        ArrowDataType::Interval(interval) => match b {
+            ArrowDataType::Interval(other_interval) => *interval == *other_interval,
+            _ => false,
+        },
+        ArrowDataType::FixedSizeBinary(size) => match b {
+            ArrowDataType::FixedSizeBinary(other_size) => *size == *other_size,
+            _ => false,
+        },
         ArrowDataType::Decimal(precision, scale) => match b {
             ArrowDataType::Decimal(other_precision, other_scale) => *precision == *other_precision
                 && *scale == *other_scale,
@@ -108,14 +119,7 @@ pub fn is_same(a: &ArrowDataType, b: &ArrowDataType) -> bool
                 && *scale == *other_scale,
             _ => false,
         },
-        ArrowDataType::Extension(extension) => match b {
-            ArrowDataType::Extension(other_extension) => is_same_extension(
-                extension.get(),
-                other_extension.get(),
-            ),
-            _ => false,
-        },
-        ArrowDataType::Unknown => matches!(b, ArrowDataType::Unknown),
+        _ => true,
     }
 }
 

@@ -14,9 +14,16 @@ use std::marker::Model;
 use std::rc::RcStr;
 
 /// A text that its copies share. A contract sees its bytes.
-#[derive(Debug, Drop)]
+#[derive(Debug)]
 pub struct PlSmallStr {
     text: RcStr,
+}
+
+/// By hand, so that each place where a value may end has one call to prove, and not the drop of every field.
+impl Drop for PlSmallStr {
+    fn drop(self) {
+        let PlSmallStr { text: _ } = self;
+    }
 }
 
 impl Model for PlSmallStr {

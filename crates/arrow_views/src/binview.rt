@@ -22,13 +22,25 @@ use std::marker::{Model, PhantomData};
 /// An array of byte strings or texts, seen as its type, the views of all slots, the buffers of the long values and its mask.
 ///
 /// The Arrow Columnar Format's variable-size binary view layout.
-#[derive(Drop)]
 pub struct BinaryViewArrayGeneric<T: ViewType> {
     dtype: ArrowDataType,
     views: Buffer<View>,
     buffers: Vec<Buffer<u8>>,
     validity: Option<Bitmap>,
     kind: PhantomData<T>,
+}
+
+/// By hand, so that each place where a value may end has one call to prove, and not the drop of every field.
+impl<T: ViewType> Drop for BinaryViewArrayGeneric<T> {
+    fn drop(self) {
+        let BinaryViewArrayGeneric {
+            dtype: _,
+            views: _,
+            buffers: _,
+            validity: _,
+            kind: _,
+        } = self;
+    }
 }
 
 /// An array of texts by views.

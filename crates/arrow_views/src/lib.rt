@@ -8,8 +8,6 @@ mod iter;
 mod kind;
 mod octets;
 mod stored;
-#[cfg(test)]
-mod tests;
 mod text;
 mod utf8_view;
 mod view;

@@ -3,8 +3,6 @@
 
 pub mod laws;
 mod native;
-#[cfg(test)]
-mod tests;
 mod view_writer;
 mod writer;
 

@@ -81,8 +81,9 @@ fn buffers_json(alloc: Global, buffers: &[Buffer<u8>]) -> Mem<Value>
 pub fn view_json<T: ViewType>(alloc: Global, array: &BinaryViewArrayGeneric<T>) -> Mem<Value>
     ensures { IfOk result (λ v. view v ≡ data_value (view_layout array.now)) }
 {
-    let buffers = buffers_json(alloc, array.data_buffers())?;
-    let mask = mask_json(alloc, array.validity())?;
-    let views = slots_json(alloc, array.views().as_slice())?;
-    json!(in alloc; {"buffers": buffers, "mask": mask, "views": views})
+    json!(in alloc; {
+        "buffers": buffers_json(alloc, array.data_buffers())?,
+        "mask": mask_json(alloc, array.validity())?,
+        "views": slots_json(alloc, array.views().as_slice())?,
+    })
 }

@@ -67,9 +67,10 @@ pub(crate) fn bytes_json(alloc: Global, bytes: &[u8]) -> Mem<Value>
 pub fn boolean_json(alloc: Global, array: &BooleanArray) -> Mem<Value>
     ensures { IfOk result (λ v. view v ≡ data_value (boolean_layout array.now)) }
 {
-    let mask = mask_json(alloc, array.validity())?;
-    let values = bits_json(alloc, array.values())?;
-    json!(in alloc; {"mask": mask, "values": values})
+    json!(in alloc; {
+        "mask": mask_json(alloc, array.validity())?,
+        "values": bits_json(alloc, array.values())?,
+    })
 }
 
 fn values_json<T: JsonNative>(alloc: Global, values: &[T]) -> Mem<Value>
@@ -85,9 +86,10 @@ fn values_json<T: JsonNative>(alloc: Global, values: &[T]) -> Mem<Value>
 fn numbers_json<T: JsonNative>(alloc: Global, array: &PrimitiveArray<T>) -> Mem<Value>
     ensures { IfOk result (λ v. view v ≡ primitives_value T.PRIMITIVE array.now.mask (map T.parts array.now.values)) }
 {
-    let mask = mask_json(alloc, array.validity())?;
-    let values = values_json(alloc, array.values().as_slice())?;
-    json!(in alloc; {"mask": mask, "values": values})
+    json!(in alloc; {
+        "mask": mask_json(alloc, array.validity())?,
+        "values": values_json(alloc, array.values().as_slice())?,
+    })
 }
 
 /// The data of a primitive array: `{"mask":M,"values":[v..]}`.
@@ -124,10 +126,11 @@ fn pieces_json<O: Offset>(
 ) -> Mem<Value>
     ensures { IfOk result (λ v. view v ≡ binaries_value (seen_mask mask.entry) (map O.number offsets.now) (octets bytes.now)) }
 {
-    let bytes = bytes_json(alloc, bytes)?;
-    let mask = mask_json(alloc, mask)?;
-    let offsets = offsets_json(alloc, offsets)?;
-    json!(in alloc; {"bytes": bytes, "mask": mask, "offsets": offsets})
+    json!(in alloc; {
+        "bytes": bytes_json(alloc, bytes)?,
+        "mask": mask_json(alloc, mask)?,
+        "offsets": offsets_json(alloc, offsets)?,
+    })
 }
 
 /// The data of byte strings: `{"bytes":hex,"mask":M,"offsets":[n..]}`, with all bytes and each offset as it stands.
@@ -150,9 +153,10 @@ pub fn utf8_json<O: Offset>(alloc: Global, array: &Utf8Array<O>) -> Mem<Value>
 pub fn fixed_size_binary_json(alloc: Global, array: &FixedSizeBinaryArray) -> Mem<Value>
     ensures { IfOk result (λ v. view v ≡ data_value (fixed_size_binary_layout array.now)) }
 {
-    let bytes = bytes_json(alloc, array.values().as_slice())?;
-    let mask = mask_json(alloc, array.validity())?;
-    json!(in alloc; {"bytes": bytes, "mask": mask})
+    json!(in alloc; {
+        "bytes": bytes_json(alloc, array.values().as_slice())?,
+        "mask": mask_json(alloc, array.validity())?,
+    })
 }
 
 /// The data of an array of any native type.
@@ -202,9 +206,10 @@ fn node_json(alloc: Global, node: &Node) -> Mem<Value>
 pub fn column_json(alloc: Global, array: &ArrayRef) -> Mem<Value>
     ensures { IfOk result (λ v. view v ≡ column_value array.now) }
 {
-    let parts = data_json(alloc, array)?;
-    let dtype = type_json(alloc, array.dtype())?;
-    json!(in alloc; {"data": parts, "type": dtype})
+    json!(in alloc; {
+        "data": data_json(alloc, array)?,
+        "type": type_json(alloc, array.dtype())?,
+    })
 }
 
 /// The compact JSON text of a column, and a line feed.

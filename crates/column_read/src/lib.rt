@@ -8,8 +8,6 @@ mod error;
 mod native;
 mod numbers;
 mod reader;
-#[cfg(test)]
-mod tests;
 mod values;
 mod viewed;
 mod views;

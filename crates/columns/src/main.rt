@@ -1,17 +1,7 @@
 //! Reads a column as JSON, and writes the canonical layout of its slots.
 #![tactic(auto)]
 
-mod depth;
-mod job;
-pub mod laws;
-mod memory;
-mod outcome;
-mod outside;
-mod plain;
-mod standard;
-#[cfg(test)]
-mod tests;
-
+use jobs::{Outcome, StdSink, StdSource, outcome_text, run, status};
 use std::process::ExitCode;
 use std::{env, io};
 
@@ -23,11 +13,11 @@ fn main(rt: HostRuntime) -> ExitCode {
     let Ok(words) = args.skip(1).collect::<Vec<String>>(alloc) else {
         return ExitCode::from(1);
     };
-    let mut source = standard::StdSource::new(rt.reader());
-    let mut sink = standard::StdSink::new(io::writer(&rt));
-    let outcome = job::run(alloc, words.as_slice(), &mut source, &mut sink);
-    if outcome != outcome::Outcome::Done {
-        let _ = eprintln!(rt; "{}", outcome::outcome_text(&outcome));
+    let mut source = StdSource::new(rt.reader());
+    let mut sink = StdSink::new(io::writer(&rt));
+    let outcome = run(alloc, words.as_slice(), &mut source, &mut sink);
+    if outcome != Outcome::Done {
+        let _ = eprintln!(rt; "{}", outcome_text(&outcome));
     }
-    ExitCode::from(outcome::status(&outcome))
+    ExitCode::from(status(&outcome))
 }

@@ -1,0 +1,7 @@
+//! What no clause of the builders of binary values and of strings says.
+#![tactic(auto)]
+
+#[cfg(test)]
+mod binary;
+#[cfg(test)]
+mod views;

@@ -1,0 +1,7 @@
+//! What no clause of the types and of their JSON says.
+#![tactic(auto)]
+
+#[cfg(test)]
+mod json;
+#[cfg(test)]
+mod types;

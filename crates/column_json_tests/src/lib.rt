@@ -1,0 +1,9 @@
+//! What no clause of columns as JSON says.
+#![tactic(auto)]
+
+#[cfg(test)]
+mod fixtures;
+#[cfg(test)]
+mod reader;
+#[cfg(test)]
+mod writer;

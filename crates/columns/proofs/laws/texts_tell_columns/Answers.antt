@@ -1,5 +1,0 @@
-use Rattle.columns.proofs.Equal.{equal_texts, same_texts}
-use Rattle.columns.proofs.laws.texts_tell_columns.Goals as goal
-
-pub returns : goal.returns
-returns c = λ t u s r ht hu hs hr fs fr. (equal_texts t u s r ht hu hs hr fs fr, same_texts t u s r)

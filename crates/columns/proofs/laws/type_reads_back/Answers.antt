@@ -1,5 +1,0 @@
-use Rattle.arrow_json.proofs.TypeBack.{type_back}
-use Rattle.columns.proofs.laws.type_reads_back.Goals as goal
-
-pub returns : goal.returns
-returns c = type_back

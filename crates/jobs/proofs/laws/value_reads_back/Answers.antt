@@ -1,0 +1,7 @@
+use Rattle.arrow_json.proofs.Told.{told_written}
+use Rattle.arrow_json.proofs.Written.{line_reads, line_utf8}
+use Rattle.jobs.proofs.Readings.{reading_some}
+use Rattle.jobs.proofs.laws.value_reads_back.Goals as goal
+
+pub returns : goal.returns
+returns c = λ d h deep. reading_some _ d (line_utf8 d (told_written d h)) (line_reads d (told_written d h) deep)

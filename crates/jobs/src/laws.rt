@@ -1,0 +1,46 @@
+//! What holds of all columns that the program reads and writes.
+ghost use Rattle.std.specs.Prelude.{◌≡◌, ◌↔◌, ◌≤◌, ℕ, List, [], ◌∷◌, ◌++◌, Some, None};
+ghost use Rattle.serde_json.specs.Data.{Data, depth};
+ghost use Rattle.serde_json.specs.Written.{compact_text};
+ghost use Rattle.arrow_types.specs.TypeData.{TypeData};
+ghost use Rattle.arrow_json.specs.Texts.{IsTold};
+ghost use Rattle.arrow_json.specs.TypeJson.{type_in, type_value, IsSpelled};
+ghost use Rattle.arrow_flat.specs.Slots.{Slot};
+ghost use Rattle.arrow_meaning.specs.Fits.{Fits};
+ghost use Rattle.arrow_meaning.specs.Layouts.{Layout};
+ghost use Rattle.arrow_meaning.specs.Plain.{IsPlain};
+ghost use Rattle.arrow_meaning.specs.SlotsOf.{HasSlots};
+ghost use Rattle.arrow_meaning.specs.Canon.{canon};
+ghost use Rattle.column_json.specs.Laws.{IsWritable, HasTypeText};
+ghost use Rattle.column_json.specs.Reads.{column_of};
+ghost use Rattle.column_json.specs.Writes.{column_text, column_value};
+ghost use Rattle.jobs.specs.Job.{reading, Verdict, IsOf};
+ghost use Rattle.jobs.specs.Laws.{IsTaken};
+
+/// The texts of two canonical columns are equal exactly when their types and their slots are.
+pub fn texts_tell_columns()
+    ensures { (t u : TypeData) (s r : List Slot) → IsTaken t → IsTaken u → HasSlots t s → HasSlots u r → Fits (canon t s) → Fits (canon u r)
+        → (column_text (canon t s) ≡ column_text (canon u r)) ↔ ((t ≡ u) × (s ≡ r)) }
+{}
+
+/// Bytes have one verdict: a job, or one cause for which they are none.
+pub fn one_verdict()
+    ensures { (bytes : List ℕ) (a b : Verdict) → IsOf a bytes → IsOf b bytes → a ≡ b }
+{}
+
+/// The text of a well-formed column of the grammar has a reading, and the reading is that column where no bit stands before those
+/// of its bitmaps.
+pub fn text_reads_back()
+    ensures reading { (l : Layout) → IsWritable l → HasTypeText l → reading (column_text l) ≡ Some (column_value l) }
+    ensures column { (l : Layout) → IsWritable l → IsPlain l → column_of (column_value l) ≡ Some (record { layout = l; slice = None }) }
+{}
+
+/// The spelling of a type is read as exactly that type.
+pub fn type_reads_back()
+    ensures { (t : TypeData) → IsSpelled t → type_in (type_value t) ≡ Some t }
+{}
+
+/// The text of a value without floats, with a line feed, has a reading, and the reading is the value.
+pub fn value_reads_back()
+    ensures { (d : Data) → IsTold d → depth d ≤ 127 → reading (compact_text d ++ 10 ∷ []) ≡ Some d }
+{}

@@ -1,0 +1,18 @@
+//! The jobs of the program: what it reads, what it answers, and how a run ends.
+#![tactic(auto)]
+
+mod depth;
+mod job;
+pub mod laws;
+mod memory;
+mod outcome;
+mod outside;
+mod plain;
+mod standard;
+
+pub use job::run;
+pub use memory::{MemorySink, MemorySource};
+pub use outcome::{Outcome, outcome_text, status};
+pub use outside::{Sink, SinkFailed, Source, SourceFailed};
+pub use plain::{PlainSink, PlainSource};
+pub use standard::{StdSink, StdSource};

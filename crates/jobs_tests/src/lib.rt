@@ -1,0 +1,5 @@
+//! What no clause of the jobs says: runs with ample memory, and their rows.
+#![tactic(auto)]
+
+#[cfg(test)]
+mod jobs;
