@@ -1,7 +1,7 @@
 //! A window over shared bits.
 ghost use Rattle.std.specs.Prelude.{◌≡◌, ◌+◌, ◌<◌, ◌≤◌, length as count, get_or, false, replicate, IfOk};
 ghost use Rattle.std.specs.List.{count_by};
-ghost use Rattle.arrow_buffers.specs.Bits.{Bits, plain, cut_bits, count_unset, byte_count, both, same};
+ghost use Rattle.arrow_buffers.specs.Bits.{Bits, plain, cut_bits, count_unset, byte_length, both, same};
 
 use crate::bits::{bit_at, count_set};
 use crate::{BitmapIter, Buffer, Mem, MutableBitmap};
@@ -79,7 +79,7 @@ impl Bitmap {
 
     /// How many bytes the bits stand in, with those before them in the first byte.
     pub fn byte_len(&self) -> usize
-        ensures { result ≡ byte_count self.now }
+        ensures { result ≡ byte_length self.now }
     {
         if self.slots == 0 {
             return 0;

@@ -8,9 +8,9 @@ use Rattle.arrow_types.specs.declared.datatype.ArrowDataType.{ArrowDataType}
 use Rattle.arrow_types.specs.declared.datatype.ArrowDataType as A
 use Rattle.arrow_types.specs.declared.datatype.ExtensionType.{ExtensionType}
 use Rattle.arrow_types.proofs.SeenFrom.{is_fixed_size_binary, is_extension}
-use Rattle.arrow_bytes.specs.FixedSizeBinaries.{size_of}
+use Rattle.arrow_bytes.specs.FixedSizeBinaries.{declared_size}
 
-pub sized_carried : (s : TypeData) (k : ℕ) → size_of s ≡ Some k → 0 < k → k < 2 ^ 64 → IsCarried s
+pub sized_carried : (s : TypeData) (k : ℕ) → declared_size s ≡ Some k → 0 < k → k < 2 ^ 64 → IsCarried s
 sized_carried (T.fixed_size_binary j) k e p l =
     let same : j ≡ k = cc in
     (omega arith, omega arith)
@@ -18,11 +18,11 @@ sized_carried (T.extension n t m) k e p l = sized_carried t k e p l
 sized_carried _ k e p l = cc
 
 -- any other type
-no_size : (s : TypeData) → ((k : ℕ) → s ≡ T.fixed_size_binary k → ⊥) → ((n : List ℕ) (t : TypeData) (m : Option (List ℕ)) → s ≡ T.extension n t m → ⊥) → None ≡ size_of s
+no_size : (s : TypeData) → ((k : ℕ) → s ≡ T.fixed_size_binary k → ⊥) → ((n : List ℕ) (t : TypeData) (m : Option (List ℕ)) → s ≡ T.extension n t m → ⊥) → None ≡ declared_size s
 no_size (T.fixed_size_binary k) f e = absurd (f k refl)
 no_size (T.extension n t m) f e = absurd (e n t m refl)
 no_size _ f e = refl
 
-pub others_unsized : (t : ArrowDataType) → ((k : ℕ) → t ≡ A.FixedSizeBinary k → ⊥) → ((x : ExtensionType) → t ≡ A.Extension x → ⊥) → None ≡ size_of (seen t)
+pub others_unsized : (t : ArrowDataType) → ((k : ℕ) → t ≡ A.FixedSizeBinary k → ⊥) → ((x : ExtensionType) → t ≡ A.Extension x → ⊥) → None ≡ declared_size (seen t)
 others_unsized t f e =
     no_size (seen t) (λ k is. f k (is_fixed_size_binary t k is)) (λ n s m is. e record { name = n; inner = back s; metadata = m } (is_extension t n s m is))

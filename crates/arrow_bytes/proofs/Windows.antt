@@ -10,7 +10,7 @@ use Rattle.arrow_buffers.proofs.Ascending.{end_reaches}
 use Rattle.arrow_buffers.proofs.Windows.{window_again, window_length}
 use Rattle.arrow_bytes.specs.Binaries.{Binaries, values_of}
 use Rattle.arrow_flat.specs.Pieces.{pieces}
-use Rattle.arrow_flat.specs.Primitives.{MaskFits}
+use Rattle.arrow_flat.specs.Primitives.{MaskHasLength}
 use Rattle.arrow_flat.proofs.Pieces.{pieces_count, below_pred, before_pred}
 
 pub one_before : (n k : ℕ) → n + 1 ≡ k → n ≡ pred k
@@ -78,8 +78,8 @@ module _ {O : Type 0} (number : O → ℤ) where
   pub window_within : (o n : ℕ) (os : List O) → o + n < length os → o + n ≤ pred (length (map number os))
   window_within o n os h = below_pred (length (map number os)) (o + n) (subst (λ k. o + n < k) (sym (length-map os number)) h)
 
-  pub fits_values : (a : Binaries O) → MaskFits a.mask (pred (length (map number a.offsets))) → MaskFits a.mask (length (values_of number a))
-  fits_values a h = subst (MaskFits a.mask) (sym (pieces_count (map number a.offsets) a.values)) h
+  pub fits_values : (a : Binaries O) → MaskHasLength a.mask (pred (length (map number a.offsets))) → MaskHasLength a.mask (length (values_of number a))
+  fits_values a h = subst (MaskHasLength a.mask) (sym (pieces_count (map number a.offsets) a.values)) h
 
   pub within_values : (a : Binaries O) (i : ℕ) → i + 1 < length a.offsets → i < length (values_of number a)
   within_values a i h =

@@ -10,7 +10,7 @@ use Rattle.arrow_types.specs.declared.error.PolarsError.TheVariants.{ComputeErro
 use Rattle.arrow_types.specs.declared.error.Reason.{Reason}
 use Rattle.arrow_types.specs.declared.error.Reason.TheVariants.{OffsetPastValues}
 use Rattle.arrow_flat.specs.Pieces.{pieces}
-use Rattle.arrow_flat.specs.Primitives.{IsArray, cut_mask, half_mask, masked}
+use Rattle.arrow_flat.specs.Primitives.{IsArray, window_mask, half_mask, masked_values}
 use Rattle.arrow_flat.specs.Refusals as flat
 
 -- the type, the offsets, the bytes of all slots, and the mask
@@ -21,13 +21,13 @@ pub record Binaries (O : Type 0) : Type 0 where
   pub mask : Option Bits
 
 -- The layout of byte strings, by whether the offsets are large.
-abbrev pub binary_layout : Bool → PhysicalType
-binary_layout true = physical.LargeBinary
-binary_layout false = physical.Binary
+abbrev pub physical_binary : Bool → PhysicalType
+physical_binary true = physical.LargeBinary
+physical_binary false = physical.Binary
 
-abbrev pub text_layout : Bool → PhysicalType
-text_layout true = physical.LargeUtf8
-text_layout false = physical.Utf8
+abbrev pub physical_utf8 : Bool → PhysicalType
+physical_utf8 true = physical.LargeUtf8
+physical_utf8 false = physical.Utf8
 
 -- What every such array keeps: a slot for each offset but the last, which lies within the bytes.
 pub record IsSound (layout : PhysicalType) (t : ArrowDataType) (m : Option Bits) (offsets : List ℤ) (bytes : ℕ) : Type 0 where
@@ -47,7 +47,7 @@ Refused _ layout t m offsets bytes = ⊥
 module _ {O : Type 0} where
   -- The array of n slots from `offset` on, of the same bytes.
   abbrev pub cut : Binaries O → ℕ → ℕ → Binaries O
-  cut a offset n = record { dtype = a.dtype; offsets = take (suc n) (drop offset a.offsets); values = a.values; mask = cut_mask a.mask offset n }
+  cut a offset n = record { dtype = a.dtype; offsets = take (suc n) (drop offset a.offsets); values = a.values; mask = window_mask a.mask offset n }
 
   -- The same, of which a mask without an unset bit goes.
   abbrev pub half : Binaries O → ℕ → ℕ → Binaries O
@@ -64,4 +64,4 @@ module _ {O : Type 0} where
     values_of a = pieces (map to_nat (map number a.offsets)) a.values
 
     abbrev pub slots : Binaries O → List (Option (List ℕ))
-    slots a = masked a.mask (values_of a)
+    slots a = masked_values a.mask (values_of a)

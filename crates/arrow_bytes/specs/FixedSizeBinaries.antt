@@ -11,7 +11,7 @@ use Rattle.arrow_types.specs.declared.error.PolarsError.{PolarsError}
 use Rattle.arrow_types.specs.declared.error.PolarsError.TheVariants.{ComputeError}
 use Rattle.arrow_types.specs.declared.error.Reason.{Reason}
 use Rattle.arrow_types.specs.declared.error.Reason.TheVariants.{MaskLength, WrongLogicalType, NotCarried, NotMultiple}
-use Rattle.arrow_flat.specs.Primitives.{MaskFits, IsLed, cut_mask, half_mask, masked}
+use Rattle.arrow_flat.specs.Primitives.{MaskHasLength, IsLed, window_mask, half_mask, masked_values}
 use Rattle.arrow_flat.specs.Pieces.{chunks}
 
 -- the type, the size of a value, the bytes of all slots, and the mask
@@ -22,37 +22,37 @@ pub record FixedSizeBinaries : Type 0 where
   pub mask : Option Bits
 
 -- The size that a type of such values declares, through extensions.
-abbrev pub size_of : TypeData → Option ℕ
-size_of (T.fixed_size_binary k) = Some k
-size_of (T.extension n t m) = size_of t
-size_of _ = None
+abbrev pub declared_size : TypeData → Option ℕ
+declared_size (T.fixed_size_binary k) = Some k
+declared_size (T.extension n t m) = declared_size t
+declared_size _ = None
 
 -- The same, 0 for another type.
 abbrev pub size_or_zero : TypeData → ℕ
-size_or_zero t = unwrap_or (size_of t) 0
+size_or_zero t = unwrap_or (declared_size t) 0
 
 -- What every such array keeps.
 pub record IsSound (t : ArrowDataType) (k : ℕ) (m : Option Bits) (n : ℕ) : Type 0 where
-  pub sized : size_of (seen t) ≡ Some k
+  pub sized : declared_size (seen t) ≡ Some k
   pub positive : 0 < k
   pub multiple : n % k ≡ 0
-  pub fits : MaskFits m (n / k)
+  pub fits : MaskHasLength m (n / k)
   pub led : IsLed m
   pub carried : IsCarried (seen t)
 
 -- How many slots there are.
-abbrev pub count_of : FixedSizeBinaries → ℕ
-count_of a = length a.values / a.size
+abbrev pub slot_count : FixedSizeBinaries → ℕ
+slot_count a = length a.values / a.size
 
 abbrev pub values_of : FixedSizeBinaries → List (List ℕ)
-values_of a = chunks a.size (count_of a) a.values
+values_of a = chunks a.size (slot_count a) a.values
 
 abbrev pub slots : FixedSizeBinaries → List (Option (List ℕ))
-slots a = masked a.mask (values_of a)
+slots a = masked_values a.mask (values_of a)
 
 -- The array of n slots from `offset` on.
 abbrev pub cut : FixedSizeBinaries → ℕ → ℕ → FixedSizeBinaries
-cut a offset n = record { dtype = a.dtype; size = a.size; values = take (n * a.size) (drop (offset * a.size) a.values); mask = cut_mask a.mask offset n }
+cut a offset n = record { dtype = a.dtype; size = a.size; values = take (n * a.size) (drop (offset * a.size) a.values); mask = window_mask a.mask offset n }
 
 -- The same, of which a mask without an unset bit goes.
 abbrev pub half : FixedSizeBinaries → ℕ → ℕ → FixedSizeBinaries
@@ -62,17 +62,17 @@ abbrev pub front : FixedSizeBinaries → ℕ → FixedSizeBinaries
 front a n = half a 0 n
 
 abbrev pub rest : FixedSizeBinaries → ℕ → FixedSizeBinaries
-rest a n = half a n (count_of a - n)
+rest a n = half a n (slot_count a - n)
 
 -- Why parts are refused, of which the type declares this size: the first test that fails.
 abbrev pub RefusedAt : Reason → Option ℕ → Option Bits → ℕ → Type 0
 RefusedAt WrongLogicalType size m n = size ≡ None
 RefusedAt NotCarried size m n = size ≡ Some 0
 RefusedAt NotMultiple (Some k) m n = (0 < k) × (n % k ≡ 0 → ⊥)
-RefusedAt MaskLength (Some k) m n = (0 < k) × (n % k ≡ 0) × (MaskFits m (n / k) → ⊥)
+RefusedAt MaskLength (Some k) m n = (0 < k) × (n % k ≡ 0) × (MaskHasLength m (n / k) → ⊥)
 RefusedAt _ size m n = ⊥
 
 -- no memory is taken, so none is wanted
 abbrev pub Refused : PolarsError → ArrowDataType → Option Bits → ℕ → Type 0
-Refused (ComputeError reason) t m n = RefusedAt reason (size_of (seen t)) m n
+Refused (ComputeError reason) t m n = RefusedAt reason (declared_size (seen t)) m n
 Refused _ t m n = ⊥

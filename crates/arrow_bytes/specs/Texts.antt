@@ -12,7 +12,7 @@ use Rattle.arrow_types.specs.declared.error.Reason.{Reason}
 use Rattle.arrow_types.specs.declared.error.Reason.TheVariants.{NotUtf8}
 use Rattle.arrow_bytes.specs.Binaries as bytes
 use Rattle.arrow_flat.specs.Pieces.{pieces, AreTexts}
-use Rattle.arrow_flat.specs.Primitives.{MaskFits}
+use Rattle.arrow_flat.specs.Primitives.{MaskHasLength}
 
 pub record IsSound (layout : PhysicalType) (t : ArrowDataType) (m : Option Bits) (offsets : List ℤ) (values : List ℕ) : Type 0 where
   pub binary : bytes.IsSound layout t m offsets (length values)
@@ -21,7 +21,7 @@ pub record IsSound (layout : PhysicalType) (t : ArrowDataType) (m : Option Bits)
 -- the texts are tested last, each of them, those under nulls too
 abbrev pub RefusedFor : Reason → PhysicalType → ArrowDataType → Option Bits → List ℤ → List ℕ → Type 0
 RefusedFor NotUtf8 layout t m offsets values =
-    (end_of offsets ≤ length values) × MaskFits m (pred (length offsets)) × (physical_of (seen t) ≡ Some layout) × (AreTexts (pieces (map to_nat offsets) values) → ⊥)
+    (end_of offsets ≤ length values) × MaskHasLength m (pred (length offsets)) × (physical_of (seen t) ≡ Some layout) × (AreTexts (pieces (map to_nat offsets) values) → ⊥)
 RefusedFor reason layout t m offsets values = bytes.RefusedFor reason layout t m offsets (length values)
 
 -- no memory is taken, so none is wanted

@@ -3,9 +3,9 @@ ghost use Rattle.std.specs.Prelude.{◌≡◌, ◌+◌, ◌<◌, ◌≤◌, pred
 ghost use Rattle.arrow_buffers.specs.Offsets.{end_of};
 ghost use Rattle.arrow_types.specs.Seen.{seen};
 ghost use Rattle.arrow_types.specs.Types.{physical_of};
-ghost use Rattle.arrow_flat.specs.Primitives.{MaskFits, valid_at, unset_in, seen_mask};
-ghost use Rattle.arrow_flat.specs.Pieces.{seen_bytes};
-ghost use Rattle.arrow_bytes.specs.Binaries.{IsSound, Refused, binary_layout, cut, half};
+ghost use Rattle.std.specs.Option.{option_copied};
+ghost use Rattle.arrow_flat.specs.Primitives.{MaskHasLength, valid_at, unset_in};
+ghost use Rattle.arrow_bytes.specs.Binaries.{IsSound, Refused, physical_binary, cut, half};
 
 use crate::piece::piece;
 use crate::stored::is_stored_as_bytes;
@@ -44,7 +44,7 @@ impl<O: Offset> Model for BinaryArray<O> {
     ghost use Rattle.std.specs.Prelude.{length, map};
     ghost use Rattle.std.specs.Coded.{codes};
     ghost use Rattle.arrow_types.specs.contracts.datatype.ArrowDataType as data_type;
-    ghost use Rattle.arrow_bytes.specs.Binaries.{Binaries, IsSound, binary_layout};
+    ghost use Rattle.arrow_bytes.specs.Binaries.{Binaries, IsSound, physical_binary};
 
     ghost Value = { Binaries O };
 
@@ -52,7 +52,7 @@ impl<O: Offset> Model for BinaryArray<O> {
 
     ghost view = { λ a. record { dtype = a.dtype; offsets = a.offsets; values = a.values; mask = a.validity } };
 
-    ghost invariant = { λ a. IsSound (binary_layout O.IS_LARGE) a.dtype a.validity (map O.number a.offsets) (length a.values) };
+    ghost invariant = { λ a. IsSound (physical_binary O.IS_LARGE) a.dtype a.validity (map O.number a.offsets) (length a.values) };
 }
 
 impl<O: Offset> BinaryArray<O> {
@@ -70,8 +70,8 @@ impl<O: Offset> BinaryArray<O> {
     ) -> PolarsResult<BinaryArray<O>>
         ensures { MatchResult result
             (λ a. (a ≡ record { dtype = dtype; offsets = offsets; values = values; mask = validity })
-            × IsSound (binary_layout O.IS_LARGE) dtype validity (map O.number offsets) (count values))
-            (λ e. Refused e (binary_layout O.IS_LARGE) dtype validity (map O.number offsets) (count values)) }
+            × IsSound (physical_binary O.IS_LARGE) dtype validity (map O.number offsets) (count values))
+            (λ e. Refused e (physical_binary O.IS_LARGE) dtype validity (map O.number offsets) (count values)) }
     {
         if offsets.last().to_usize() > values.len() {
             return Err(PolarsError::ComputeError(Reason::OffsetPastValues));
@@ -100,8 +100,8 @@ impl<O: Offset> BinaryArray<O> {
         validity: Option<Bitmap>,
     ) -> BinaryArray<O>
         requires within { end_of (map O.number offsets) ≤ count values }
-        requires fits { MaskFits validity (pred (count (map O.number offsets))) }
-        requires stored { physical_of (seen dtype) ≡ Some (binary_layout O.IS_LARGE) }
+        requires fits { MaskHasLength validity (pred (count (map O.number offsets))) }
+        requires stored { physical_of (seen dtype) ≡ Some (physical_binary O.IS_LARGE) }
         ensures { result ≡ record { dtype = dtype; offsets = offsets; values = values; mask = validity } }
     {
         match BinaryArray::try_new(dtype, offsets, values, validity) {
@@ -113,7 +113,7 @@ impl<O: Offset> BinaryArray<O> {
     /// The whole type, extensions included.
     pub fn dtype(&self) -> &ArrowDataType
         ensures value { result.now ≡ self.now.dtype }
-        ensures sound { IsSound (binary_layout O.IS_LARGE) self.now.dtype self.now.mask (map O.number self.now.offsets) (count self.now.values) }
+        ensures sound { IsSound (physical_binary O.IS_LARGE) self.now.dtype self.now.mask (map O.number self.now.offsets) (count self.now.values) }
     {
         &self.dtype
     }
@@ -141,7 +141,7 @@ impl<O: Offset> BinaryArray<O> {
 
     /// The mask, where there is one: a set bit for each slot that isn't null.
     pub fn validity(&self) -> Option<&Bitmap>
-        ensures { seen_mask result ≡ self.now.mask }
+        ensures { option_copied result ≡ self.now.mask }
     {
         self.validity.as_ref()
     }
@@ -180,7 +180,7 @@ impl<O: Offset> BinaryArray<O> {
     /// The value at a slot, None where it is null.
     pub fn get(&self, i: usize) -> Option<&[u8]>
         requires { i + 1 < count self.now.offsets }
-        ensures { slice_get (slots O.number self.now) i ≡ Some (seen_bytes result) }
+        ensures { slice_get (slots O.number self.now) i ≡ Some (option_copied result) }
     {
         let _ = &self.validity;
         if self.is_valid(i) {
@@ -227,7 +227,7 @@ impl<O: Offset> BinaryArray<O> {
 
     /// Puts another mask, or none, in the mask's place.
     pub fn set_validity(&mut self, validity: Option<Bitmap>)
-        requires { MaskFits validity (pred (count self.old.offsets)) }
+        requires { MaskHasLength validity (pred (count self.old.offsets)) }
         ensures { self.new ≡ record { dtype = self.old.dtype; offsets = self.old.offsets; values = self.old.values; mask = validity } }
     {
         know_led(&validity);

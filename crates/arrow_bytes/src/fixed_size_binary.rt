@@ -1,9 +1,9 @@
 //! Arrays of byte strings of one size under a mask.
 ghost use Rattle.std.specs.Prelude.{◌≡◌, ◌+◌, ◌*◌, ◌/◌, ◌%◌, ◌<◌, ◌≤◌, length as count, take, drop, slice_get, not, Some, MatchResult, IfOk};
 ghost use Rattle.arrow_types.specs.Seen.{seen};
-ghost use Rattle.arrow_flat.specs.Primitives.{MaskFits, valid_at, unset_in, seen_mask};
-ghost use Rattle.arrow_flat.specs.Pieces.{seen_bytes};
-ghost use Rattle.arrow_bytes.specs.FixedSizeBinaries.{FixedSizeBinaries, IsSound, Refused, size_or_zero, count_of, values_of, slots, cut, half};
+ghost use Rattle.std.specs.Option.{option_copied};
+ghost use Rattle.arrow_flat.specs.Primitives.{MaskHasLength, valid_at, unset_in};
+ghost use Rattle.arrow_bytes.specs.FixedSizeBinaries.{FixedSizeBinaries, IsSound, Refused, size_or_zero, slot_count, values_of, slots, cut, half};
 
 use crate::stored::{know_sized, size_of_values};
 use arrow_buffers::{Bitmap, Buffer};
@@ -99,7 +99,7 @@ impl FixedSizeBinaryArray {
     ) -> FixedSizeBinaryArray
         requires positive { 0 < size_or_zero (seen dtype) }
         requires multiple { count values % size_or_zero (seen dtype) ≡ 0 }
-        requires fits { MaskFits validity (count values / size_or_zero (seen dtype)) }
+        requires fits { MaskHasLength validity (count values / size_or_zero (seen dtype)) }
         ensures { result ≡ record { dtype = dtype; size = size_or_zero (seen dtype); values = values; mask = validity } }
     {
         let Some(size) = size_of_values(&dtype) else {
@@ -133,7 +133,7 @@ impl FixedSizeBinaryArray {
 
     /// The count of slots.
     pub fn len(&self) -> usize
-        ensures { result ≡ count_of self.now }
+        ensures { result ≡ slot_count self.now }
     {
         self.values.len() / self.size
     }
@@ -147,14 +147,14 @@ impl FixedSizeBinaryArray {
 
     /// The mask, where there is one: a set bit for each slot that isn't null.
     pub fn validity(&self) -> Option<&Bitmap>
-        ensures { seen_mask result ≡ self.now.mask }
+        ensures { option_copied result ≡ self.now.mask }
     {
         self.validity.as_ref()
     }
 
     /// The value at a slot, under a null too.
     pub fn value(&self, i: usize) -> &[u8]
-        requires { i < count_of self.now }
+        requires { i < slot_count self.now }
         ensures { slice_get (values_of self.now) i ≡ Some result.now }
     {
         chunk(self.values.as_slice(), self.size, i)
@@ -162,7 +162,7 @@ impl FixedSizeBinaryArray {
 
     /// Whether the slot isn't null.
     pub fn is_valid(&self, i: usize) -> bool
-        requires { i < count_of self.now }
+        requires { i < slot_count self.now }
         ensures { result ≡ valid_at self.now.mask i }
     {
         is_valid(&self.validity, i)
@@ -170,7 +170,7 @@ impl FixedSizeBinaryArray {
 
     /// Whether the slot is null.
     pub fn is_null(&self, i: usize) -> bool
-        requires { i < count_of self.now }
+        requires { i < slot_count self.now }
         ensures { result ≡ not (valid_at self.now.mask i) }
     {
         !self.is_valid(i)
@@ -185,8 +185,8 @@ impl FixedSizeBinaryArray {
 
     /// The value at a slot, None where it is null.
     pub fn get(&self, i: usize) -> Option<&[u8]>
-        requires { i < count_of self.now }
-        ensures { slice_get (slots self.now) i ≡ Some (seen_bytes result) }
+        requires { i < slot_count self.now }
+        ensures { slice_get (slots self.now) i ≡ Some (option_copied result) }
     {
         let _ = &self.validity;
         if self.is_valid(i) {
@@ -212,7 +212,7 @@ impl FixedSizeBinaryArray {
 
     /// Keeps the `length` slots from `offset` on.
     pub fn slice(&mut self, offset: usize, length: usize)
-        requires { offset + length ≤ count_of self.old }
+        requires { offset + length ≤ slot_count self.old }
         ensures { self.new ≡ cut self.old offset length }
     {
         slice_mask(&mut self.validity, offset, length);
@@ -221,7 +221,7 @@ impl FixedSizeBinaryArray {
 
     /// A copy of the `length` slots from `offset` on, whose mask goes where none of them is null.
     fn half(&self, alloc: Global, offset: usize, length: usize) -> Mem<FixedSizeBinaryArray>
-        requires { offset + length ≤ count_of self.now }
+        requires { offset + length ≤ slot_count self.now }
         ensures { IfOk result (λ a. a ≡ half self.now offset length) }
     {
         let mut half = FixedSizeBinaryArray::try_clone(self, alloc)?;
@@ -232,7 +232,7 @@ impl FixedSizeBinaryArray {
 
     /// Puts another mask, or none, in the mask's place.
     pub fn set_validity(&mut self, validity: Option<Bitmap>)
-        requires { MaskFits validity (count_of self.old) }
+        requires { MaskHasLength validity (slot_count self.old) }
         ensures { self.new ≡ record { dtype = self.old.dtype; size = self.old.size; values = self.old.values; mask = validity } }
     {
         know_led(&validity);
@@ -281,9 +281,9 @@ impl TryClone for FixedSizeBinaryArray {
 
 impl Splitable for FixedSizeBinaryArray {
     ghost use Rattle.std.specs.Prelude.{◌≤◌};
-    ghost use Rattle.arrow_bytes.specs.FixedSizeBinaries.{count_of, front, rest};
+    ghost use Rattle.arrow_bytes.specs.FixedSizeBinaries.{slot_count, front, rest};
 
-    ghost HasBound = { λ a n. n ≤ count_of a };
+    ghost HasBound = { λ a n. n ≤ slot_count a };
 
     ghost front = { front };
 

@@ -1,5 +1,5 @@
 //! The byte strings between offsets.
-ghost use Rattle.std.specs.Prelude.{◌≡◌, ◌+◌, ◌-◌, ◌<◌, ◌≤◌, length as count, [], map, take, drop, get_or, slice_get, true, Some, Decides, IsUtf8};
+ghost use Rattle.std.specs.Prelude.{◌≡◌, ◌↔◌, ◌+◌, ◌-◌, ◌<◌, ◌≤◌, length as count, [], map, take, drop, get_or, slice_get, true, Some, IsUtf8, IsTrue};
 ghost use Rattle.arrow_buffers.specs.Offsets.{to_nat, end_of};
 ghost use Rattle.arrow_flat.specs.Pieces.{pieces, AreTexts};
 
@@ -33,7 +33,7 @@ fn between(bytes: &[u8], start: usize, end: usize) -> &[u8]
 /// by slot.
 pub(crate) fn are_texts<O: Offset>(offsets: &OffsetsBuffer<O>, bytes: &[u8]) -> bool
     requires { end_of (map O.number offsets.now) ≤ count bytes.now }
-    ensures { Decides result (AreTexts (pieces (map to_nat (map O.number offsets.now)) bytes.now)) }
+    ensures { IsTrue result ↔ (AreTexts (pieces (map to_nat (map O.number offsets.now)) bytes.now)) }
 {
     are_parts_of_text(offsets, bytes) || are_texts_each(offsets, bytes)
 }
@@ -62,7 +62,7 @@ fn are_parts_of_text<O: Offset>(offsets: &OffsetsBuffer<O>, bytes: &[u8]) -> boo
 /// Whether the bytes of each slot are UTF-8, each tested alone.
 fn are_texts_each<O: Offset>(offsets: &OffsetsBuffer<O>, bytes: &[u8]) -> bool
     requires { end_of (map O.number offsets.now) ≤ count bytes.now }
-    ensures { Decides result (AreTexts (pieces (map to_nat (map O.number offsets.now)) bytes.now)) }
+    ensures { IsTrue result ↔ (AreTexts (pieces (map to_nat (map O.number offsets.now)) bytes.now)) }
 {
     for i in 0..offsets.len_proxy() {
         if !is_text_at(offsets, bytes, i) {
@@ -76,7 +76,7 @@ fn are_texts_each<O: Offset>(offsets: &OffsetsBuffer<O>, bytes: &[u8]) -> bool
 fn is_text_at<O: Offset>(offsets: &OffsetsBuffer<O>, bytes: &[u8], i: usize) -> bool
     requires slot { i + 1 < count offsets.now }
     requires within { end_of (map O.number offsets.now) ≤ count bytes.now }
-    ensures { Decides result (IsUtf8 (get_or (pieces (map to_nat (map O.number offsets.now)) bytes.now) i [])) }
+    ensures { IsTrue result ↔ (IsUtf8 (get_or (pieces (map to_nat (map O.number offsets.now)) bytes.now) i [])) }
 {
     std::str::from_utf8(piece(offsets, bytes, i)).is_ok()
 }

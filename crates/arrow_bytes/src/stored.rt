@@ -1,17 +1,17 @@
 //! Which layout a type's columns are stored in.
-ghost use Rattle.std.specs.Prelude.{◌≡◌, ◌<◌, true, Some, Decides};
+ghost use Rattle.std.specs.Prelude.{◌≡◌, ◌↔◌, ◌<◌, true, Some, IsTrue};
 ghost use Rattle.arrow_types.specs.Carried.{IsCarried};
 ghost use Rattle.arrow_types.specs.Seen.{seen};
 ghost use Rattle.arrow_types.specs.Types.{physical_of};
-ghost use Rattle.arrow_bytes.specs.Binaries.{binary_layout, text_layout};
-ghost use Rattle.arrow_bytes.specs.FixedSizeBinaries.{size_of};
+ghost use Rattle.arrow_bytes.specs.Binaries.{physical_binary, physical_utf8};
+ghost use Rattle.arrow_bytes.specs.FixedSizeBinaries.{declared_size};
 
 use arrow_flat::stored::know_carried;
 use arrow_types::{ArrowDataType, PhysicalType};
 
 /// Whether the type is stored as byte strings, with large offsets or with others.
 pub(crate) fn is_stored_as_bytes(dtype: &ArrowDataType, is_large: bool) -> bool
-    ensures stored { Decides result (physical_of (seen dtype.now) ≡ Some (binary_layout is_large)) }
+    ensures stored { IsTrue result ↔ (physical_of (seen dtype.now) ≡ Some (physical_binary is_large)) }
     ensures carried { result ≡ true → IsCarried (seen dtype.now) }
 {
     know_carried(dtype);
@@ -24,7 +24,7 @@ pub(crate) fn is_stored_as_bytes(dtype: &ArrowDataType, is_large: bool) -> bool
 
 /// Whether the type is stored as texts, with large offsets or with others.
 pub(crate) fn is_stored_as_texts(dtype: &ArrowDataType, is_large: bool) -> bool
-    ensures stored { Decides result (physical_of (seen dtype.now) ≡ Some (text_layout is_large)) }
+    ensures stored { IsTrue result ↔ (physical_of (seen dtype.now) ≡ Some (physical_utf8 is_large)) }
     ensures carried { result ≡ true → IsCarried (seen dtype.now) }
 {
     know_carried(dtype);
@@ -38,7 +38,7 @@ pub(crate) fn is_stored_as_texts(dtype: &ArrowDataType, is_large: bool) -> bool
 /// The size in bytes that a type of byte strings of one size declares, through extensions; None for another type.
 #[tactic(auto, using(arrow_flat::proofs::TypeViews::seen_types))]
 pub fn size_of_values(dtype: &ArrowDataType) -> Option<usize>
-    ensures { result ≡ size_of (seen dtype.now) }
+    ensures { result ≡ declared_size (seen dtype.now) }
 {
     match dtype {
         ArrowDataType::FixedSizeBinary(size) => Some(*size),
@@ -49,7 +49,7 @@ pub fn size_of_values(dtype: &ArrowDataType) -> Option<usize>
 
 /// Tells a caller that columns have a type of values of this size. It does nothing.
 pub(crate) fn know_sized(dtype: &ArrowDataType, size: usize)
-    requires sized { size_of (seen dtype.now) ≡ Some size }
+    requires sized { declared_size (seen dtype.now) ≡ Some size }
     requires positive { 0 < size }
     ensures { IsCarried (seen dtype.now) }
 {}

@@ -3,9 +3,10 @@ ghost use Rattle.std.specs.Prelude.{◌≡◌, ◌+◌, ◌<◌, ◌≤◌, pred
 ghost use Rattle.arrow_buffers.specs.Offsets.{end_of, to_nat};
 ghost use Rattle.arrow_types.specs.Seen.{seen};
 ghost use Rattle.arrow_types.specs.Types.{physical_of};
-ghost use Rattle.arrow_flat.specs.Primitives.{MaskFits, valid_at, unset_in, seen_mask};
-ghost use Rattle.arrow_flat.specs.Pieces.{pieces, seen_bytes, AreTexts};
-ghost use Rattle.arrow_bytes.specs.Binaries.{text_layout, cut, half};
+ghost use Rattle.std.specs.Option.{option_copied};
+ghost use Rattle.arrow_flat.specs.Primitives.{MaskHasLength, valid_at, unset_in};
+ghost use Rattle.arrow_flat.specs.Pieces.{pieces, AreTexts};
+ghost use Rattle.arrow_bytes.specs.Binaries.{physical_utf8, cut, half};
 ghost use Rattle.arrow_bytes.specs.Texts.{IsSound, Refused};
 
 use crate::piece::{are_texts, piece};
@@ -45,7 +46,7 @@ impl<O: Offset> Model for Utf8Array<O> {
     ghost use Rattle.std.specs.Prelude.{map};
     ghost use Rattle.std.specs.Coded.{codes};
     ghost use Rattle.arrow_types.specs.contracts.datatype.ArrowDataType as data_type;
-    ghost use Rattle.arrow_bytes.specs.Binaries.{Binaries, text_layout};
+    ghost use Rattle.arrow_bytes.specs.Binaries.{Binaries, physical_utf8};
     ghost use Rattle.arrow_bytes.specs.Texts.{IsSound};
 
     ghost Value = { Binaries O };
@@ -54,7 +55,7 @@ impl<O: Offset> Model for Utf8Array<O> {
 
     ghost view = { λ a. record { dtype = a.dtype; offsets = a.offsets; values = a.values; mask = a.validity } };
 
-    ghost invariant = { λ a. IsSound (text_layout O.IS_LARGE) a.dtype a.validity (map O.number a.offsets) a.values };
+    ghost invariant = { λ a. IsSound (physical_utf8 O.IS_LARGE) a.dtype a.validity (map O.number a.offsets) a.values };
 }
 
 impl<O: Offset> Utf8Array<O> {
@@ -73,8 +74,8 @@ impl<O: Offset> Utf8Array<O> {
     ) -> PolarsResult<Utf8Array<O>>
         ensures { MatchResult result
             (λ a. (a ≡ record { dtype = dtype; offsets = offsets; values = values; mask = validity })
-            × IsSound (text_layout O.IS_LARGE) dtype validity (map O.number offsets) values)
-            (λ e. Refused e (text_layout O.IS_LARGE) dtype validity (map O.number offsets) values) }
+            × IsSound (physical_utf8 O.IS_LARGE) dtype validity (map O.number offsets) values)
+            (λ e. Refused e (physical_utf8 O.IS_LARGE) dtype validity (map O.number offsets) values) }
     {
         if offsets.last().to_usize() > values.len() {
             return Err(PolarsError::ComputeError(Reason::OffsetPastValues));
@@ -107,8 +108,8 @@ impl<O: Offset> Utf8Array<O> {
         validity: Option<Bitmap>,
     ) -> Utf8Array<O>
         requires within { end_of (map O.number offsets) ≤ count values }
-        requires fits { MaskFits validity (pred (count (map O.number offsets))) }
-        requires stored { physical_of (seen dtype) ≡ Some (text_layout O.IS_LARGE) }
+        requires fits { MaskHasLength validity (pred (count (map O.number offsets))) }
+        requires stored { physical_of (seen dtype) ≡ Some (physical_utf8 O.IS_LARGE) }
         requires texts { AreTexts (pieces (map to_nat (map O.number offsets)) values) }
         ensures { result ≡ record { dtype = dtype; offsets = offsets; values = values; mask = validity } }
     {
@@ -127,7 +128,7 @@ impl<O: Offset> Utf8Array<O> {
     /// The whole type, extensions included.
     pub fn dtype(&self) -> &ArrowDataType
         ensures value { result.now ≡ self.now.dtype }
-        ensures sound { IsSound (text_layout O.IS_LARGE) self.now.dtype self.now.mask (map O.number self.now.offsets) self.now.values }
+        ensures sound { IsSound (physical_utf8 O.IS_LARGE) self.now.dtype self.now.mask (map O.number self.now.offsets) self.now.values }
     {
         &self.dtype
     }
@@ -155,7 +156,7 @@ impl<O: Offset> Utf8Array<O> {
 
     /// The mask, where there is one: a set bit for each slot that isn't null.
     pub fn validity(&self) -> Option<&Bitmap>
-        ensures { seen_mask result ≡ self.now.mask }
+        ensures { option_copied result ≡ self.now.mask }
     {
         self.validity.as_ref()
     }
@@ -196,7 +197,7 @@ impl<O: Offset> Utf8Array<O> {
     /// The value at a slot, None where it is null.
     pub fn get(&self, i: usize) -> Option<&str>
         requires { i + 1 < count self.now.offsets }
-        ensures { slice_get (slots O.number self.now) i ≡ Some (seen_bytes result) }
+        ensures { slice_get (slots O.number self.now) i ≡ Some (option_copied result) }
     {
         let _ = &self.validity;
         if self.is_valid(i) {
@@ -243,7 +244,7 @@ impl<O: Offset> Utf8Array<O> {
 
     /// Puts another mask, or none, in the mask's place.
     pub fn set_validity(&mut self, validity: Option<Bitmap>)
-        requires { MaskFits validity (pred (count self.old.offsets)) }
+        requires { MaskHasLength validity (pred (count self.old.offsets)) }
         ensures { self.new ≡ record { dtype = self.old.dtype; offsets = self.old.offsets; values = self.old.values; mask = validity } }
     {
         know_led(&validity);

@@ -1,9 +1,8 @@
 //! What no clause says: that values are packed with ample memory, where the next value would pass the limit into a new buffer.
 
 use arrow_buffers::Buffer;
-use arrow_pack::ViewPacker;
 use arrow_types::Mem;
-use arrow_views::View;
+use arrow_views::{View, ViewPacker};
 use std::alloc::Global;
 use std::test::Fail;
 

@@ -11,19 +11,19 @@ use Rattle.arrow_types.specs.Seen.{seen}
 use Rattle.arrow_types.specs.TypeData.{TypeData}
 use Rattle.arrow_flat.specs.Natives.{octets}
 use Rattle.arrow_flat.specs.Pieces.{pieces_from, pieces, AreTexts}
-use Rattle.arrow_flat.specs.Primitives.{MaskFits, masked as option_masked}
+use Rattle.arrow_flat.specs.Primitives.{MaskHasLength, masked_values as option_masked}
 use Rattle.arrow_flat.specs.Slots.{Slot, bytes}
 use Rattle.arrow_flat.proofs.Masked.{slots_length}
 use Rattle.arrow_flat.proofs.Pieces.{pieces_count}
-use Rattle.arrow_meaning.specs.Canon.{canon, bytes_or, offsets}
-use Rattle.arrow_meaning.specs.Denote.{denote, masked}
-use Rattle.arrow_meaning.specs.Forms.{binaries_of, form_of}
-use Rattle.arrow_meaning.specs.Layouts.{binaries}
+use Rattle.arrow_layout.specs.Canon.{canon, bytes_or, offsets}
+use Rattle.arrow_layout.specs.Denote.{denote, masked}
+use Rattle.arrow_layout.specs.Forms.{binaries_of, form_of}
+use Rattle.arrow_layout.specs.Layouts.{binaries}
 use Rattle.arrow_meaning.specs.Nodes.{binary_layout}
-use Rattle.arrow_meaning.proofs.ByForm.{canon-form}
-use Rattle.arrow_meaning.proofs.Lists.{map-map}
-use Rattle.arrow_meaning.proofs.Pieces.{pieces_joined}
-use Rattle.arrow_canon.specs.Steps.{plain_mask, joined, lengths}
+use Rattle.arrow_layout.proofs.ByForm.{canon-form}
+use Rattle.arrow_flat.proofs.Lists.{map-map}
+use Rattle.arrow_layout.proofs.Pieces.{pieces_joined}
+use Rattle.arrow_canon.specs.Steps.{plain_mask, concatenated, lengths}
 use Rattle.arrow_canon.proofs.MaskedSlots.{slot_of, mapped, joined_slots, mask_kept, plain_fits}
 use Rattle.arrow_canon.proofs.Octets.{octets_joined, octets_part, string}
 use Rattle.arrow_canon.proofs.Strings.{end_joined, offsets_count}
@@ -49,9 +49,9 @@ string_bytes None = refl
 string_bytes (Some x) = refl
 
 -- the canonical layout of what lies between offsets
-strings_canonical : (t : TypeData) (large text : Bool) (m : Option Bits) (ps : List (List ℕ)) → form_of t ≡ binaries_of large text → MaskFits m (length ps)
+strings_canonical : (t : TypeData) (large text : Bool) (m : Option Bits) (ps : List (List ℕ)) → form_of t ≡ binaries_of large text → MaskHasLength m (length ps)
     → canon t (masked m (map string ps))
-    ≡ binaries t (plain_mask m) (offsets (lengths (option_masked m ps))) (octets (joined 0 (option_masked m ps)))
+    ≡ binaries t (plain_mask m) (offsets (lengths (option_masked m ps))) (octets (concatenated 0 (option_masked m ps)))
 strings_canonical t large text m ps form fits =
     let s : List Slot = masked m (map string ps) in
     let xs = option_masked m ps in
@@ -63,13 +63,13 @@ strings_canonical t large text m ps form fits =
     (joined_slots string (bytes_or []) (λ x. octets (unwrap_or x [])) string_bytes m ps fits ∙ octets_joined (λ x. unwrap_or x []) xs)
 
 module _ {O : Type 0} (number : O → ℤ) where
-  pieces_fit : (a : Binaries O) → MaskFits a.mask (pred (length (map number a.offsets))) → MaskFits a.mask (length (values_of number a))
-  pieces_fit a fits = subst (MaskFits a.mask) (sym (pieces_count (map number a.offsets) a.values)) fits
+  pieces_fit : (a : Binaries O) → MaskHasLength a.mask (pred (length (map number a.offsets))) → MaskHasLength a.mask (length (values_of number a))
+  pieces_fit a fits = subst (MaskHasLength a.mask) (sym (pieces_count (map number a.offsets) a.values)) fits
 
   -- an array of canonical parts is canonical
   pub canonical_binaries : (a b : Binaries O) (large text : Bool) → form_of (seen a.dtype) ≡ binaries_of large text
-      → MaskFits a.mask (pred (length (map number a.offsets)))
-      → b.dtype ≡ a.dtype → map number b.offsets ≡ offsets (lengths (slots number a)) → b.values ≡ joined 0 (slots number a) → b.mask ≡ plain_mask a.mask
+      → MaskHasLength a.mask (pred (length (map number a.offsets)))
+      → b.dtype ≡ a.dtype → map number b.offsets ≡ offsets (lengths (slots number a)) → b.values ≡ concatenated 0 (slots number a) → b.mask ≡ plain_mask a.mask
       → binary_layout number b ≡ canon (seen a.dtype) (denote (binary_layout number a))
   canonical_binaries a b large text form fits dtype os values mask =
       let t = seen a.dtype in
@@ -85,20 +85,20 @@ module _ {O : Type 0} (number : O → ℤ) where
 
   -- ---- such parts fit
 
-  pub canonical_within : (a : Binaries O) (os : List ℤ) (bs : List ℕ) → os ≡ offsets (lengths (slots number a)) → bs ≡ joined 0 (slots number a)
+  pub canonical_within : (a : Binaries O) (os : List ℤ) (bs : List ℕ) → os ≡ offsets (lengths (slots number a)) → bs ≡ concatenated 0 (slots number a)
       → end_of os ≤ length bs
   canonical_within a os bs e d =
       let last : end_of os ≡ length bs = ap end_of e ∙ end_joined (slots number a) ∙ ap length (sym d) in
       omega arith
 
-  pub canonical_mask_fits : (a : Binaries O) (os : List ℤ) (m : Option Bits) → MaskFits a.mask (pred (length (map number a.offsets)))
-      → os ≡ offsets (lengths (slots number a)) → m ≡ plain_mask a.mask → MaskFits m (pred (length os))
+  pub canonical_mask_fits : (a : Binaries O) (os : List ℤ) (m : Option Bits) → MaskHasLength a.mask (pred (length (map number a.offsets)))
+      → os ≡ offsets (lengths (slots number a)) → m ≡ plain_mask a.mask → MaskHasLength m (pred (length os))
   canonical_mask_fits a os m fits e d =
       let count : pred (length os) ≡ pred (length (map number a.offsets)) =
       ap (λ xs. pred (length xs)) e ∙ offsets_count (slots number a) ∙ slots_length a.mask (values_of number a) (pieces_fit a fits)
       ∙ pieces_count (map number a.offsets) a.values in
-      subst (λ m. MaskFits m (pred (length os))) (sym d)
-      (subst (MaskFits (plain_mask a.mask)) (sym count) (plain_fits a.mask (pred (length (map number a.offsets))) fits))
+      subst (λ m. MaskHasLength m (pred (length os))) (sym d)
+      (subst (MaskHasLength (plain_mask a.mask)) (sym count) (plain_fits a.mask (pred (length (map number a.offsets))) fits))
 
 -- ---- texts stay texts
 
@@ -117,7 +117,7 @@ masked_texts (Some b) ps h = by b.bits ps h
     by (bit ∷ bits) (p ∷ ps) h = (one_text bit p h.0, by bits ps h.1)
 
 pub canonical_texts : {O : Type 0} (number : O → ℤ) (a : Binaries O) (os : List ℤ) (bs : List ℕ) → AreTexts (values_of number a)
-    → os ≡ offsets (lengths (slots number a)) → bs ≡ joined 0 (slots number a) → AreTexts (pieces (map to_nat os) bs)
+    → os ≡ offsets (lengths (slots number a)) → bs ≡ concatenated 0 (slots number a) → AreTexts (pieces (map to_nat os) bs)
 canonical_texts number a os bs h e d =
     let same : pieces (map to_nat os) bs ≡ map (λ x. unwrap_or x []) (slots number a) =
     ap (λ xs. pieces (map to_nat xs) bs) e ∙ ap (pieces (map to_nat (offsets (lengths (slots number a))))) d ∙ pieces_joined (λ x. unwrap_or x []) (slots number a) in

@@ -6,14 +6,14 @@ use Rattle.arrow_buffers.specs.Bits.{Bits, plain, both}
 use Rattle.arrow_types.specs.Seen.{seen}
 use Rattle.arrow_types.specs.declared.datatype.PhysicalType.TheVariants as physical
 use Rattle.arrow_flat.specs.Booleans.{Booleans, IsSound, slots}
-use Rattle.arrow_flat.specs.Primitives.{masked as option_masked}
+use Rattle.arrow_flat.specs.Primitives.{masked_values as option_masked}
 use Rattle.arrow_flat.specs.Slots.{Slot, bool}
-use Rattle.arrow_meaning.specs.Canon.{canon, boolean_of}
-use Rattle.arrow_meaning.specs.Denote.{denote, masked}
-use Rattle.arrow_meaning.specs.Forms.{booleans_of}
-use Rattle.arrow_meaning.specs.Layouts.{booleans}
+use Rattle.arrow_layout.specs.Canon.{canon, boolean_of}
+use Rattle.arrow_layout.specs.Denote.{denote, masked}
+use Rattle.arrow_layout.specs.Forms.{booleans_of}
+use Rattle.arrow_layout.specs.Layouts.{booleans}
 use Rattle.arrow_meaning.specs.Nodes.{boolean_layout}
-use Rattle.arrow_meaning.proofs.ByForm.{canon-form}
+use Rattle.arrow_layout.proofs.ByForm.{canon-form}
 use Rattle.arrow_canon.specs.Steps.{plain_mask, values_or}
 use Rattle.arrow_canon.proofs.Forms.{form_of_physical}
 use Rattle.arrow_canon.proofs.MaskedSlots.{slot_of, mapped, mask_kept}

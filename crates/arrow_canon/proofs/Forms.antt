@@ -1,15 +1,15 @@
 -- The form of a type whose values have no children, by its physical type.
 use Rattle.std.proofs.Common.{◌≡◌, ℕ, Bool, true, false, refl, ap, sym, ◌∙◌, subst, Option, Some}
 use Rattle.std.specs.Prelude.{⊤}
-use Rattle.arrow_bytes.specs.Binaries.{binary_layout, text_layout}
-use Rattle.arrow_bytes.specs.FixedSizeBinaries.{size_of}
+use Rattle.arrow_bytes.specs.Binaries.{physical_binary, physical_utf8}
+use Rattle.arrow_bytes.specs.FixedSizeBinaries.{declared_size}
 use Rattle.arrow_types.specs.TypeData.{TypeData}
 use Rattle.arrow_types.specs.TypeData as T
 use Rattle.arrow_types.specs.Types.{physical_of}
 use Rattle.arrow_types.specs.declared.datatype.PhysicalType.{PhysicalType}
 use Rattle.arrow_types.specs.declared.datatype.PhysicalType.TheVariants as physical
-use Rattle.arrow_meaning.specs.Forms.{Form, booleans_of, primitives_of, binaries_of, fixed_size_binaries_of, views_of, lists_of, no_form, form_of}
-use Rattle.arrow_meaning.proofs.Physical.{list_kind, physical_by, physical-by}
+use Rattle.arrow_layout.specs.Forms.{Form, booleans_of, primitives_of, binaries_of, fixed_size_binaries_of, views_of, lists_of, no_form, form_of}
+use Rattle.arrow_layout.proofs.Physical.{list_kind, physical_by, physical-by}
 
 -- layouts that name their form
 abbrev pub IsNaming : Option PhysicalType → Type 0
@@ -53,16 +53,16 @@ form_of_physical t k h e =
     let q : physical_by t (form_of t) ≡ Some k = sym (physical-by t) ∙ e in
     form_named t (form_of t) (subst IsNaming (sym q) h) ∙ ap named q
 
-pub bytes_form : (t : TypeData) (large : Bool) → physical_of t ≡ Some (binary_layout large) → form_of t ≡ binaries_of large false
+pub bytes_form : (t : TypeData) (large : Bool) → physical_of t ≡ Some (physical_binary large) → form_of t ≡ binaries_of large false
 bytes_form t true e = form_of_physical t physical.LargeBinary tt e
 bytes_form t false e = form_of_physical t physical.Binary tt e
 
-pub texts_form : (t : TypeData) (large : Bool) → physical_of t ≡ Some (text_layout large) → form_of t ≡ binaries_of large true
+pub texts_form : (t : TypeData) (large : Bool) → physical_of t ≡ Some (physical_utf8 large) → form_of t ≡ binaries_of large true
 texts_form t true e = form_of_physical t physical.LargeUtf8 tt e
 texts_form t false e = form_of_physical t physical.Utf8 tt e
 
 -- a type of values of one size
-pub sized_form : (t : TypeData) (k : ℕ) → size_of t ≡ Some k → form_of t ≡ fixed_size_binaries_of k
+pub sized_form : (t : TypeData) (k : ℕ) → declared_size t ≡ Some k → form_of t ≡ fixed_size_binaries_of k
 sized_form (T.fixed_size_binary j) k e = let same : j ≡ k = cc in ap fixed_size_binaries_of same
 sized_form (T.extension n t m) k e = sized_form t k e
 sized_form _ k e = cc

@@ -7,12 +7,12 @@ use Rattle.std.proofs.lemmas.List.{length-map}
 use Rattle.std.proofs.lemmas.List.Folds.{flat_map-map}
 use Rattle.arrow_buffers.specs.Bits.{Bits, plain, same, count_unset}
 use Rattle.arrow_buffers.proofs.Bytes.{none_unset, some_unset}
-use Rattle.arrow_flat.specs.Primitives.{MaskFits, masked as option_masked}
+use Rattle.arrow_flat.specs.Primitives.{MaskHasLength, masked_values as option_masked}
 use Rattle.arrow_flat.specs.Slots.{Slot, null, is_valid}
 use Rattle.arrow_flat.proofs.Masked.{slots_length}
-use Rattle.arrow_meaning.specs.Canon.{mask_of}
-use Rattle.arrow_meaning.specs.Denote.{masked, masked_by}
-use Rattle.arrow_meaning.proofs.Lists.{map-map, map-same}
+use Rattle.arrow_layout.specs.Canon.{mask_of}
+use Rattle.arrow_layout.specs.Denote.{masked, masked_by}
+use Rattle.arrow_flat.proofs.Lists.{map-map, map-same}
 use Rattle.arrow_canon.specs.Steps.{plain_mask, values_or}
 
 flat_map-same : {A B : Type 0} (f g : A → List B) → ((x : A) → f x ≡ g x) → (xs : List A) → flat_map f xs ≡ flat_map g xs
@@ -35,20 +35,20 @@ mask_needed m b e h =
     let P : Option Bits → Type 0 = λ m. Some (plain b.bits) ≡ plain_mask m in
     subst P (sym e) (sym (ap (λ all. if all then None else Some (plain b.bits)) (some_unset b.bits h)))
 
-pub plain_fits : (m : Option Bits) (n : ℕ) → MaskFits m n → MaskFits (plain_mask m) n
+pub plain_fits : (m : Option Bits) (n : ℕ) → MaskHasLength m n → MaskHasLength (plain_mask m) n
 plain_fits None n h = tt
 plain_fits (Some b) n h = by (list_all same b.bits)
   where
-    by : (all : Bool) → MaskFits (if all then None else Some (plain b.bits)) n
+    by : (all : Bool) → MaskHasLength (if all then None else Some (plain b.bits)) n
     by true = tt
     by false = h
 
 -- the canonical mask fits the canonical values
-pub canonical_fits : {T : Type 0} (zero : T) (m : Option Bits) (xs : List T) → MaskFits m (length xs)
-    → MaskFits (plain_mask m) (length (values_or zero (option_masked m xs)))
+pub canonical_fits : {T : Type 0} (zero : T) (m : Option Bits) (xs : List T) → MaskHasLength m (length xs)
+    → MaskHasLength (plain_mask m) (length (values_or zero (option_masked m xs)))
 canonical_fits zero m xs fits =
     let count : length (values_or zero (option_masked m xs)) ≡ length xs = length-map (option_masked m xs) (λ x. unwrap_or x zero) ∙ slots_length m xs fits in
-    subst (MaskFits (plain_mask m)) (sym count) (plain_fits m (length xs) fits)
+    subst (MaskHasLength (plain_mask m)) (sym count) (plain_fits m (length xs) fits)
 
 -- ---- slots under a mask
 
@@ -73,18 +73,18 @@ module _ {A : Type 0} (f : A → Slot) where
   some_slots (bit ∷ bits) [] h = refl
   some_slots (bit ∷ bits) (x ∷ xs) h = ap₂ (λ y ys. y ∷ ys) (one bit x) (some_slots bits xs (omega (arith, h)))
 
-  pub masked_slots : (m : Option Bits) (xs : List A) → MaskFits m (length xs) → masked m (map f xs) ≡ map slot_of (option_masked m xs)
+  pub masked_slots : (m : Option Bits) (xs : List A) → MaskHasLength m (length xs) → masked m (map f xs) ≡ map slot_of (option_masked m xs)
   masked_slots None xs h = all_slots xs
   masked_slots (Some b) xs h = some_slots b.bits xs h
 
   -- what is made of each slot, by the optional values
   pub mapped : {B : Type 0} (h : Slot → B) (k : Option A → B) → ((x : Option A) → h (slot_of x) ≡ k x)
-      → (m : Option Bits) (xs : List A) → MaskFits m (length xs) → map h (masked m (map f xs)) ≡ map k (option_masked m xs)
+      → (m : Option Bits) (xs : List A) → MaskHasLength m (length xs) → map h (masked m (map f xs)) ≡ map k (option_masked m xs)
   mapped h k e m xs fits =
       ap (map h) (masked_slots m xs fits) ∙ map-map h slot_of (option_masked m xs) ∙ map-same (λ x. h (slot_of x)) k e (option_masked m xs)
 
   pub joined_slots : {B : Type 0} (h : Slot → List B) (k : Option A → List B) → ((x : Option A) → h (slot_of x) ≡ k x)
-      → (m : Option Bits) (xs : List A) → MaskFits m (length xs) → flat_map h (masked m (map f xs)) ≡ flat_map k (option_masked m xs)
+      → (m : Option Bits) (xs : List A) → MaskHasLength m (length xs) → flat_map h (masked m (map f xs)) ≡ flat_map k (option_masked m xs)
   joined_slots h k e m xs fits =
       ap (flat_map h) (masked_slots m xs fits) ∙ flat_map-map h slot_of (option_masked m xs)
       ∙ flat_map-same (λ x. h (slot_of x)) k e (option_masked m xs)
@@ -109,7 +109,7 @@ module _ {A : Type 0} (f : A → Slot) where
     mask_by all bits = cond all None (Some (plain bits))
 
     -- the canonical mask of the slots
-    pub mask_kept : (m : Option Bits) (xs : List A) → MaskFits m (length xs) → mask_of (masked m (map f xs)) ≡ plain_mask m
+    pub mask_kept : (m : Option Bits) (xs : List A) → MaskHasLength m (length xs) → mask_of (masked m (map f xs)) ≡ plain_mask m
     mask_kept None xs h = ap (λ all. mask_by all (map is_valid (map f xs))) (every xs)
     mask_kept (Some b) xs h =
         let s : List Slot = masked_by b.bits (map f xs) in

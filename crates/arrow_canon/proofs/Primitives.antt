@@ -6,15 +6,15 @@ use Rattle.arrow_types.specs.Seen.{seen}
 use Rattle.arrow_types.specs.declared.datatype.PhysicalType.TheVariants as physical
 use Rattle.arrow_types.specs.declared.datatype.PrimitiveType.{PrimitiveType}
 use Rattle.arrow_flat.specs.Numbers.{zeros}
-use Rattle.arrow_flat.specs.Primitives.{Primitives, IsSound, MaskFits, slots, masked as option_masked}
+use Rattle.arrow_flat.specs.Primitives.{Primitives, IsSound, MaskHasLength, slots, masked_values as option_masked}
 use Rattle.arrow_flat.specs.Slots.{Slot, num}
-use Rattle.arrow_meaning.specs.Canon.{canon, numbers_or}
-use Rattle.arrow_meaning.specs.Denote.{denote, masked}
-use Rattle.arrow_meaning.specs.Forms.{primitives_of}
-use Rattle.arrow_meaning.specs.Layouts.{primitives}
+use Rattle.arrow_layout.specs.Canon.{canon, numbers_or}
+use Rattle.arrow_layout.specs.Denote.{denote, masked}
+use Rattle.arrow_layout.specs.Forms.{primitives_of}
+use Rattle.arrow_layout.specs.Layouts.{primitives}
 use Rattle.arrow_meaning.specs.Nodes.{primitive_layout}
-use Rattle.arrow_meaning.proofs.ByForm.{canon-form}
-use Rattle.arrow_meaning.proofs.Lists.{map-map}
+use Rattle.arrow_layout.proofs.ByForm.{canon-form}
+use Rattle.arrow_flat.proofs.Lists.{map-map}
 use Rattle.arrow_canon.specs.Steps.{plain_mask, values_or}
 use Rattle.arrow_canon.proofs.Forms.{form_of_physical}
 use Rattle.arrow_canon.proofs.MaskedSlots.{slot_of, mapped, mask_kept}
@@ -27,7 +27,7 @@ module _ {T : Type 0} (parts : T → List ℤ) (zero : T) (p : PrimitiveType) (z
   one_value None = sym zero_parts
   one_value (Some x) = refl
 
-  values_same : (m : Option Bits) (xs : List T) → MaskFits m (length xs)
+  values_same : (m : Option Bits) (xs : List T) → MaskHasLength m (length xs)
       → map (numbers_or (zeros p)) (masked m (map number xs)) ≡ map parts (values_or zero (option_masked m xs))
   values_same m xs fits =
       mapped number (numbers_or (zeros p)) (λ x. parts (unwrap_or x zero)) one_value m xs fits

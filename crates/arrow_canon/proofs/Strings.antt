@@ -11,14 +11,14 @@ use Rattle.arrow_buffers.specs.Bits.{Bits}
 use Rattle.arrow_buffers.specs.Offsets.{to_nat, Ascend, AreOffsets, end_from, end_of, ends as number_ends}
 use Rattle.arrow_buffers.proofs.Ascending.{offsets_end}
 use Rattle.arrow_bytes.specs.Binaries.{Binaries, slots, values_of}
-use Rattle.arrow_bytes.specs.FixedSizeBinaries.{FixedSizeBinaries, count_of, slots as fixed_slots}
+use Rattle.arrow_bytes.specs.FixedSizeBinaries.{FixedSizeBinaries, slot_count, slots as fixed_slots}
 use Rattle.arrow_bytes.proofs.Windows.{fits_values, slots_count}
 use Rattle.arrow_flat.specs.Pieces.{pieces_from, pieces, chunks}
 use Rattle.arrow_flat.proofs.Pieces.{chunk_count}
-use Rattle.arrow_flat.specs.Primitives.{MaskFits, masked}
+use Rattle.arrow_flat.specs.Primitives.{MaskHasLength, masked_values}
 use Rattle.arrow_flat.proofs.Masked.{take_at, slots_length}
-use Rattle.arrow_meaning.specs.Canon.{ends, offsets}
-use Rattle.arrow_canon.specs.Steps.{joined, lengths}
+use Rattle.arrow_layout.specs.Canon.{sums_from, offsets}
+use Rattle.arrow_canon.specs.Steps.{concatenated, lengths}
 
 sum_cons : (n : ℕ) (ns : List ℕ) → sum (n ∷ ns) ≡ n + sum ns
 sum_cons n ns = sum_by-cons (λ x. x) n ns
@@ -26,7 +26,7 @@ sum_cons n ns = sum_by-cons (λ x. x) n ns
 -- ---- one slot more
 
 joined_more : (zeros : ℕ) (s : List (Option (List ℕ))) (i : ℕ) (x : Option (List ℕ)) → slice_get s i ≡ Some x
-    → joined zeros (take (i + 1) s) ≡ joined zeros (take i s) ++ unwrap_or x (replicate zeros 0)
+    → concatenated zeros (take (i + 1) s) ≡ concatenated zeros (take i s) ++ unwrap_or x (replicate zeros 0)
 joined_more zeros s i x e =
     let value : Option (List ℕ) → List ℕ = λ o. unwrap_or o (replicate zeros 0) in
     ap (flat_map value) (take_at s i x e) ∙ flat_map-append value (take i s) (x ∷ []) ∙ ap (λ ys. flat_map value (take i s) ++ ys) (append_nil (value x))
@@ -41,7 +41,7 @@ lengths_more s i x e = ap lengths (take_at s i x e) ∙ map-append (λ o. length
 
 -- what a step of a loop over the slots appends
 pub joined_next : (zeros : ℕ) (s : List (Option (List ℕ))) (i : ℕ) (x : Option (List ℕ)) (old new : List ℕ) → slice_get s i ≡ Some x
-    → old ≡ joined zeros (take i s) → new ≡ old ++ unwrap_or x (replicate zeros 0) → new ≡ joined zeros (take (i + 1) s)
+    → old ≡ concatenated zeros (take i s) → new ≡ old ++ unwrap_or x (replicate zeros 0) → new ≡ concatenated zeros (take (i + 1) s)
 joined_next zeros s i x old new e h k = k ∙ ap (λ bs. bs ++ unwrap_or x (replicate zeros 0)) h ∙ sym (joined_more zeros s i x e)
 
 pub lengths_next : (s : List (Option (List ℕ))) (i : ℕ) (x : Option (List ℕ)) (n : ℕ) (old new : List ℕ) → slice_get s i ≡ Some x
@@ -51,7 +51,7 @@ lengths_next s i x n old new e l h k =
 
 -- ---- offsets from 0
 
-ends_numbers : (a : ℕ) (ns : List ℕ) → number_ends a ns ≡ map pos (ends a ns)
+ends_numbers : (a : ℕ) (ns : List ℕ) → number_ends a ns ≡ map pos (sums_from a ns)
 ends_numbers a [] = refl
 ends_numbers a (n ∷ ns) = ap (λ os. pos (a + n) ∷ os) (ends_numbers (a + n) ns)
 
@@ -60,19 +60,19 @@ offsets_numbers os ns e =
     let P : List ℤ → Type 0 = λ os. os ++ number_ends (end_of os) ns ≡ offsets ns in
     subst P (sym e) (ap (λ es. pos 0 ∷ es) (ends_numbers 0 ns))
 
-end_from_ends : (a : ℕ) (ns : List ℕ) → end_from a (map pos (ends a ns)) ≡ a + sum ns
+end_from_ends : (a : ℕ) (ns : List ℕ) → end_from a (map pos (sums_from a ns)) ≡ a + sum ns
 end_from_ends a [] = omega arith
 end_from_ends a (n ∷ ns) =
     let e : (a + n) + sum ns ≡ a + sum (n ∷ ns) = omega (arith, sum_cons n ns) in
     end_from_ends (a + n) ns ∙ e
 
 -- the last one is the count of bytes
-pub end_joined : (s : List (Option (List ℕ))) → end_of (offsets (lengths s)) ≡ length (joined 0 s)
+pub end_joined : (s : List (Option (List ℕ))) → end_of (offsets (lengths s)) ≡ length (concatenated 0 s)
 end_joined s =
     let q : 0 + sum (lengths s) ≡ sum (lengths s) = omega arith in
     end_from_ends 0 (lengths s) ∙ q ∙ sum-map (λ x. length (unwrap_or x [])) s ∙ sym (length-flat_map (λ x. unwrap_or x []) s)
 
-ends_count : (a : ℕ) (ns : List ℕ) → length (map pos (ends a ns)) ≡ length ns
+ends_count : (a : ℕ) (ns : List ℕ) → length (map pos (sums_from a ns)) ≡ length ns
 ends_count a [] = refl
 ends_count a (n ∷ ns) = ap suc (ends_count (a + n) ns)
 
@@ -86,11 +86,11 @@ one_length : (bit : Bool) (x : List ℕ) → length (unwrap_or (cond bit (Some x
 one_length true x = omega arith
 one_length false x = omega arith
 
-masked_sum : (m : Option Bits) (ps : List (List ℕ)) → sum (lengths (masked m ps)) ≤ sum (map length ps)
+masked_sum : (m : Option Bits) (ps : List (List ℕ)) → sum (lengths (masked_values m ps)) ≤ sum (map length ps)
 masked_sum None [] = omega arith
 masked_sum None (p ∷ ps) =
     let q : sum (lengths (map Some ps)) ≤ sum (map length ps) = masked_sum None ps in
-    let e : sum (lengths (masked None (p ∷ ps))) ≡ length p + sum (lengths (map Some ps)) = sum_cons (length p) (lengths (map Some ps)) in
+    let e : sum (lengths (masked_values None (p ∷ ps))) ≡ length p + sum (lengths (map Some ps)) = sum_cons (length p) (lengths (map Some ps)) in
     let d : sum (map length (p ∷ ps)) ≡ length p + sum (map length ps) = sum_cons (length p) (map length ps) in
     omega arith
 masked_sum (Some b) ps = by b.bits ps
@@ -138,7 +138,7 @@ all_sum limit (pos k ∷ os) bs h =
     e
 all_sum limit (negsuc k ∷ os) bs h = absurd (let q = h.0 in omega (arith, ints))
 
-pub lengths_fit : (limit : ℕ) (m : Option Bits) (os : List ℤ) (bs : List ℕ) → AreOffsets limit os → sum (lengths (masked m (pieces (map to_nat os) bs))) < limit
+pub lengths_fit : (limit : ℕ) (m : Option Bits) (os : List ℤ) (bs : List ℕ) → AreOffsets limit os → sum (lengths (masked_values m (pieces (map to_nat os) bs))) < limit
 lengths_fit limit m os bs h =
     let a = masked_sum m (pieces (map to_nat os) bs) in
     let b = all_sum limit os bs h in
@@ -148,18 +148,18 @@ lengths_fit limit m os bs h =
 -- ---- how many slots there are
 
 module _ {O : Type 0} (number : O → ℤ) where
-  pub strings_count : (a : Binaries O) (n : ℕ) → MaskFits a.mask (pred (length (map number a.offsets))) → n + 1 ≡ length a.offsets → n ≡ length (slots number a)
+  pub strings_count : (a : Binaries O) (n : ℕ) → MaskHasLength a.mask (pred (length (map number a.offsets))) → n + 1 ≡ length a.offsets → n ≡ length (slots number a)
   strings_count a n fits h =
       sym (slots_length a.mask (values_of number a) (fits_values number a fits) ∙ slots_count number a.offsets a.values n h)
 
-  pub string_there : (a : Binaries O) (n i : ℕ) → MaskFits a.mask (pred (length (map number a.offsets))) → n + 1 ≡ length a.offsets → i < length (slots number a)
+  pub string_there : (a : Binaries O) (n i : ℕ) → MaskHasLength a.mask (pred (length (map number a.offsets))) → n + 1 ≡ length a.offsets → i < length (slots number a)
       → i + 1 < length a.offsets
   string_there a n i fits h l = let e = strings_count a n fits h in omega arith
 
-pub chunks_count : (a : FixedSizeBinaries) → MaskFits a.mask (count_of a) → count_of a ≡ length (fixed_slots a)
+pub chunks_count : (a : FixedSizeBinaries) → MaskHasLength a.mask (slot_count a) → slot_count a ≡ length (fixed_slots a)
 chunks_count a fits =
-    let count : length (chunks a.size (count_of a) a.values) ≡ count_of a = chunk_count a.size (count_of a) a.values in
-    sym (slots_length a.mask (chunks a.size (count_of a) a.values) (subst (MaskFits a.mask) (sym count) fits) ∙ count)
+    let count : length (chunks a.size (slot_count a) a.values) ≡ slot_count a = chunk_count a.size (slot_count a) a.values in
+    sym (slots_length a.mask (chunks a.size (slot_count a) a.values) (subst (MaskHasLength a.mask) (sym count) fits) ∙ count)
 
-pub chunk_there : (a : FixedSizeBinaries) (i : ℕ) → MaskFits a.mask (count_of a) → i < length (fixed_slots a) → i < count_of a
+pub chunk_there : (a : FixedSizeBinaries) (i : ℕ) → MaskHasLength a.mask (slot_count a) → i < length (fixed_slots a) → i < slot_count a
 chunk_there a i fits l = let e = chunks_count a fits in omega arith

@@ -10,29 +10,29 @@ use Rattle.arrow_buffers.specs.Bits.{Bits}
 use Rattle.arrow_types.specs.Seen.{seen}
 use Rattle.arrow_flat.specs.Natives.{octets}
 use Rattle.arrow_flat.specs.Packs.{view_limit, pack_after, pack, packed_views}
-use Rattle.arrow_flat.specs.Primitives.{MaskFits, valid_at, masked as option_masked}
+use Rattle.arrow_flat.specs.Primitives.{MaskHasLength, valid_at, masked_values as option_masked}
 use Rattle.arrow_flat.specs.Slots.{bytes}
 use Rattle.arrow_flat.specs.Views.{View, inline, long, IsView, is_short, longs, view_bytes, view_length}
 use Rattle.arrow_flat.proofs.Masked.{slot_at, null_at, take_at}
 use Rattle.arrow_views.specs.ViewArrays.{ViewArray, IsSound, AreViews, AreTextsIf, values_in, values_of, slots}
 use Rattle.arrow_views.proofs.Windows.{values_count, values_fit, slots_count}
-use Rattle.arrow_pack.specs.Packing.{Packing, packed_on, packed_view}
-use Rattle.arrow_pack.proofs.Packing.{pack_push, views_push, longs_push}
-use Rattle.arrow_meaning.specs.Canon.{canon, bytes_or}
-use Rattle.arrow_meaning.specs.Denote.{denote, masked}
-use Rattle.arrow_meaning.specs.Fits.{Fits, Small}
-use Rattle.arrow_meaning.specs.Forms.{form_of, views_of, text_by}
-use Rattle.arrow_meaning.specs.Layouts.{views}
+use Rattle.arrow_views.specs.Packing.{Packing, packed_on, packed_view}
+use Rattle.arrow_views.proofs.Packing.{pack_push, views_push, longs_push}
+use Rattle.arrow_layout.specs.Canon.{canon, bytes_or}
+use Rattle.arrow_layout.specs.Denote.{denote, masked}
+use Rattle.arrow_layout.specs.Fits.{Fits, Small}
+use Rattle.arrow_layout.specs.Forms.{form_of, views_of, text_by}
+use Rattle.arrow_layout.specs.Layouts.{views}
 use Rattle.arrow_meaning.specs.Nodes.{view_layout}
-use Rattle.arrow_meaning.specs.SlotsOf.{IsTextIf}
-use Rattle.arrow_meaning.specs.WellFormed.{WellFormed}
-use Rattle.arrow_meaning.proofs.ByForm.{canon-form}
-use Rattle.arrow_meaning.proofs.CanonForms.{canon_well_formed}
-use Rattle.arrow_meaning.proofs.Conforms.{conforms}
+use Rattle.arrow_layout.specs.SlotsOf.{IsTextIf}
+use Rattle.arrow_layout.specs.WellFormed.{WellFormed}
+use Rattle.arrow_layout.proofs.ByForm.{canon-form}
+use Rattle.arrow_layout.proofs.CanonForms.{canon_well_formed}
+use Rattle.arrow_layout.proofs.Conforms.{conforms}
 use Rattle.arrow_meaning.proofs.FlatLayouts.{view_form, well_formed_view}
-use Rattle.arrow_meaning.proofs.Lists.{all_map, all_take}
+use Rattle.arrow_flat.proofs.Lists.{all_map, all_take}
 use Rattle.arrow_meaning.proofs.Octets.{octets_count}
-use Rattle.arrow_meaning.proofs.PackedViews.{total, sum-total, length-views, lengths-views}
+use Rattle.arrow_flat.proofs.PackedViews.{total, sum-total, length-views, lengths-views}
 use Rattle.arrow_canon.specs.Steps.{plain_mask, values_or}
 use Rattle.arrow_canon.proofs.MaskedSlots.{slot_of, mapped, mask_kept, plain_fits}
 
@@ -44,18 +44,18 @@ slot_values a = values_or [] (slots a)
 abbrev or_none : Option (List ℕ) → List ℕ
 or_none x = unwrap_or x []
 
-pub value_there : (a : ViewArray) (i : ℕ) (x : List ℕ) → MaskFits a.mask (length a.views) → valid_at a.mask i ≡ true → slice_get (values_of a) i ≡ Some x
+pub value_there : (a : ViewArray) (i : ℕ) (x : List ℕ) → MaskHasLength a.mask (length a.views) → valid_at a.mask i ≡ true → slice_get (values_of a) i ≡ Some x
     → slice_get (slot_values a) i ≡ Some x
 value_there a i x fits v e =
     let at : slice_get (slots a) i ≡ Some (Some x) = slot_at a.mask (values_of a) i x (values_fit a fits) e ∙ ap (λ b. Some (cond b (Some x) None)) v in
     slice_get-map or_none (slots a) i ∙ rw at refl
 
-pub nothing_there : (a : ViewArray) (i : ℕ) → MaskFits a.mask (length a.views) → valid_at a.mask i ≡ false → i < length a.views → slice_get (slot_values a) i ≡ Some []
+pub nothing_there : (a : ViewArray) (i : ℕ) → MaskHasLength a.mask (length a.views) → valid_at a.mask i ≡ false → i < length a.views → slice_get (slot_values a) i ≡ Some []
 nothing_there a i fits v l =
     let at : slice_get (slots a) i ≡ Some None = null_at a.mask (values_of a) i (values_fit a fits) (omega (arith, values_count a)) v in
     slice_get-map or_none (slots a) i ∙ rw at refl
 
-pub slot_values_count : (a : ViewArray) → MaskFits a.mask (length a.views) → length (slot_values a) ≡ length a.views
+pub slot_values_count : (a : ViewArray) → MaskHasLength a.mask (length a.views) → length (slot_values a) ≡ length a.views
 slot_values_count a fits = length-map (slots a) or_none ∙ slots_count a fits
 
 all_there : {A : Type 0} (P : A → Type 0) (xs : List A) (i : ℕ) (x : A) → AllByRecursion P xs → slice_get xs i ≡ Some x → P x
@@ -101,10 +101,10 @@ too_many a i value n e h l m =
     sym (lt-leb (sum (map length (slot_values a))) (2 ^ 62) past)
 
 -- the end of a loop over the slots
-pub at_end : (a : ViewArray) (i n : ℕ) → MaskFits a.mask (length a.views) → n ≡ length a.views → n ≤ i → take i (slot_values a) ≡ slot_values a
+pub at_end : (a : ViewArray) (i n : ℕ) → MaskHasLength a.mask (length a.views) → n ≡ length a.views → n ≤ i → take i (slot_values a) ≡ slot_values a
 at_end a i n fits e h = take_all i (slot_values a) (omega (arith, slot_values_count a fits, e))
 
-pub not_too_many : (a : ViewArray) (i end n : ℕ) → MaskFits a.mask (length a.views) → end ≡ length a.views → end ≤ i → n ≡ total (take i (slot_values a)) → n ≤ 2 ^ 62
+pub not_too_many : (a : ViewArray) (i end n : ℕ) → MaskHasLength a.mask (length a.views) → end ≡ length a.views → end ≤ i → n ≡ total (take i (slot_values a)) → n ≤ 2 ^ 62
     → true ≡ nat_le (sum (map length (slot_values a))) (2 ^ 62)
 not_too_many a i end n fits e g h l =
     let q : n ≡ total (slot_values a) = h ∙ ap total (at_end a i end fits e g) in
@@ -220,7 +220,7 @@ one_value : (x : Option (List ℕ)) → bytes_or [] (slot_of bytes x) ≡ unwrap
 one_value None = refl
 one_value (Some x) = refl
 
-pub views_canonical : (text : Bool) (a : ViewArray) → form_of (seen a.dtype) ≡ views_of text → MaskFits a.mask (length a.views)
+pub views_canonical : (text : Bool) (a : ViewArray) → form_of (seen a.dtype) ≡ views_of text → MaskHasLength a.mask (length a.views)
     → canon (seen a.dtype) (denote (view_layout a)) ≡ views (seen a.dtype) (plain_mask a.mask) (packed_views view_limit (slot_values a)) (pack view_limit (longs (slot_values a)))
 views_canonical text a form fits =
     let t = seen a.dtype in
@@ -259,10 +259,10 @@ module _ (text : Bool) (a : ViewArray) (sound : IsSound text a.dtype a.mask a.vi
       (canon_well_formed t s sound.array.carried (conforms (view_layout a) (well_formed_view text a raw sound e short)) (canonical_fits few) (subst Small (sym same_canon) tt))
 
   -- the parts fit
-  pub mask_of_parts : (m : Option Bits) (us : List View) → m ≡ plain_mask a.mask → us ≡ packed_views view_limit (slot_values a) → MaskFits m (length us)
+  pub mask_of_parts : (m : Option Bits) (us : List View) → m ≡ plain_mask a.mask → us ≡ packed_views view_limit (slot_values a) → MaskHasLength m (length us)
   mask_of_parts m us e h =
       let count : length us ≡ length a.views = ap length h ∙ length-views view_limit (slot_values a) 0 0 ∙ slot_values_count a sound.array.fits in
-      subst (λ m. MaskFits m (length us)) (sym e) (subst (MaskFits (plain_mask a.mask)) (sym count) (plain_fits a.mask (length a.views) sound.array.fits))
+      subst (λ m. MaskHasLength m (length us)) (sym e) (subst (MaskHasLength (plain_mask a.mask)) (sym count) (plain_fits a.mask (length a.views) sound.array.fits))
 
   pub views_of_parts : (raw : List (List ℕ)) (us : List View) (buffers : List (List ℕ)) → map octets raw ≡ a.buffers → sum (map length (slot_values a)) ≤ 2 ^ 62
       → us ≡ packed_views view_limit (slot_values a) → buffers ≡ pack view_limit (longs (slot_values a)) → AreViews buffers us

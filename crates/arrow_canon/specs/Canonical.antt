@@ -1,9 +1,9 @@
 -- The canonical layout of a layout's slots.
 use Rattle.std.specs.Prelude.{◌^◌, ◌≤◌, map, sum, ⊤}
 use Rattle.arrow_flat.specs.Views.{view_length}
-use Rattle.arrow_meaning.specs.Canon.{canon}
-use Rattle.arrow_meaning.specs.Denote.{denote}
-use Rattle.arrow_meaning.specs.Layouts.{Layout, views, type_of}
+use Rattle.arrow_layout.specs.Canon.{canon}
+use Rattle.arrow_layout.specs.Denote.{denote}
+use Rattle.arrow_layout.specs.Layouts.{Layout, views, type_of}
 
 abbrev pub canonical_of : Layout → Layout
 canonical_of l = canon (type_of l) (denote l)

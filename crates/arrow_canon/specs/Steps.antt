@@ -12,8 +12,8 @@ abbrev pub values_or : {T : Type 0} → T → List (Option T) → List T
 values_or d s = map (λ x. unwrap_or x d) s
 
 -- The byte strings behind one another, and so many zeros where there is none.
-abbrev pub joined : ℕ → List (Option (List ℕ)) → List ℕ
-joined n s = flat_map (λ x. unwrap_or x (replicate n 0)) s
+abbrev pub concatenated : ℕ → List (Option (List ℕ)) → List ℕ
+concatenated n s = flat_map (λ x. unwrap_or x (replicate n 0)) s
 
 -- The lengths of the byte strings, and 0 where there is none.
 abbrev pub lengths : List (Option (List ℕ)) → List ℕ

@@ -1,10 +1,10 @@
 //! The canonical arrays of byte strings and texts.
 ghost use Rattle.std.specs.Prelude.{◌≡◌, ◌<◌, map, sum, IfOk};
 ghost use Rattle.arrow_types.specs.Seen.{seen};
-ghost use Rattle.arrow_meaning.specs.Denote.{denote};
-ghost use Rattle.arrow_meaning.specs.Canon.{canon, offsets as canon_offsets};
+ghost use Rattle.arrow_layout.specs.Denote.{denote};
+ghost use Rattle.arrow_layout.specs.Canon.{canon, offsets as canon_offsets};
 ghost use Rattle.arrow_meaning.specs.Nodes.{binary_layout};
-ghost use Rattle.arrow_canon.specs.Steps.{joined, lengths};
+ghost use Rattle.arrow_canon.specs.Steps.{concatenated, lengths};
 
 use crate::byte_slots::ByteSlots;
 use crate::joined::{joined_bytes, offsets_from_zero, slot_lengths};
@@ -42,7 +42,7 @@ fn canonical_strings<O: Offset, A: ByteSlots>(
     array: &A,
 ) -> Mem<(OffsetsBuffer<O>, Buffer<u8>)>
     requires { sum (lengths (A.slots array.now)) < O.limit }
-    ensures { IfOk result (λ p. (map O.number p.0 ≡ canon_offsets (lengths (A.slots array.now))) × (p.1 ≡ joined 0 (A.slots array.now))) }
+    ensures { IfOk result (λ p. (map O.number p.0 ≡ canon_offsets (lengths (A.slots array.now))) × (p.1 ≡ concatenated 0 (A.slots array.now))) }
 {
     let offsets = canonical_offsets::<O, A>(alloc, array)?;
     let values = joined_bytes(alloc, array, 0, offsets.last().to_usize())?;

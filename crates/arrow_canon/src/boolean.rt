@@ -4,8 +4,8 @@ ghost use Rattle.arrow_buffers.specs.Bits.{plain};
 ghost use Rattle.arrow_flat.specs.Booleans.{slots};
 ghost use Rattle.arrow_types.specs.Seen.{seen};
 ghost use Rattle.arrow_types.specs.declared.datatype.PhysicalType.TheVariants as physical;
-ghost use Rattle.arrow_meaning.specs.Denote.{denote};
-ghost use Rattle.arrow_meaning.specs.Canon.{canon};
+ghost use Rattle.arrow_layout.specs.Denote.{denote};
+ghost use Rattle.arrow_layout.specs.Canon.{canon};
 ghost use Rattle.arrow_meaning.specs.Nodes.{boolean_layout};
 ghost use Rattle.arrow_canon.specs.Steps.{values_or};
 

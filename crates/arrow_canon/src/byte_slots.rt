@@ -1,6 +1,6 @@
 //! Arrays of byte strings and texts, by their slots.
 ghost use Rattle.std.specs.Prelude.{◌≡◌, ℕ, ◌<◌, List, length as count, slice_get, Option, Some};
-ghost use Rattle.arrow_flat.specs.Pieces.{seen_bytes};
+ghost use Rattle.std.specs.Option.{option_copied};
 ghost use Rattle.arrow_bytes.specs.Binaries.{slots as string_slots};
 ghost use Rattle.arrow_bytes.specs.FixedSizeBinaries.{slots as fixed_slots};
 
@@ -18,7 +18,7 @@ pub(crate) trait ByteSlots {
     /// The bytes of a slot, None where it is null.
     fn slot(&self, i: usize) -> Option<&[u8]>
         requires { i < count (slots self.now) }
-        ensures { slice_get (slots self.now) i ≡ Some (seen_bytes result) };
+        ensures { slice_get (slots self.now) i ≡ Some (option_copied result) };
 }
 
 impl<O: Offset> ByteSlots for BinaryArray<O> {

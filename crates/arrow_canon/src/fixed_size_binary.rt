@@ -1,8 +1,8 @@
 //! The canonical array of byte strings of one size.
 ghost use Rattle.std.specs.Prelude.{◌≡◌, IfOk};
 ghost use Rattle.arrow_types.specs.Seen.{seen};
-ghost use Rattle.arrow_meaning.specs.Denote.{denote};
-ghost use Rattle.arrow_meaning.specs.Canon.{canon};
+ghost use Rattle.arrow_layout.specs.Denote.{denote};
+ghost use Rattle.arrow_layout.specs.Canon.{canon};
 ghost use Rattle.arrow_meaning.specs.Nodes.{fixed_size_binary_layout};
 
 use crate::joined::joined_bytes;

@@ -1,8 +1,8 @@
 //! The bytes of slots behind one another, and where each ends.
 ghost use Rattle.std.specs.Prelude.{◌≡◌, ◌++◌, ◌<◌, map, length as count, [], replicate, sum, unwrap_or, IfOk, OnOk};
-ghost use Rattle.arrow_flat.specs.Pieces.{seen_bytes};
-ghost use Rattle.arrow_meaning.specs.Canon.{offsets};
-ghost use Rattle.arrow_canon.specs.Steps.{joined, lengths};
+ghost use Rattle.std.specs.Option.{option_copied};
+ghost use Rattle.arrow_layout.specs.Canon.{offsets};
+ghost use Rattle.arrow_canon.specs.Steps.{concatenated, lengths};
 
 use crate::byte_slots::ByteSlots;
 use arrow_buffers::{Offset, OffsetError, Offsets, OffsetsBuffer};
@@ -16,7 +16,7 @@ pub(crate) fn joined_bytes<A: ByteSlots>(
     zeros: usize,
     room: usize,
 ) -> Mem<Vec<u8>>
-    ensures { IfOk result (λ v. v.items ≡ joined zeros (A.slots array.now)) }
+    ensures { IfOk result (λ v. v.items ≡ concatenated zeros (A.slots array.now)) }
 {
     let mut bytes = Vec::new(alloc);
     bytes.reserve(room)?;
@@ -28,7 +28,7 @@ pub(crate) fn joined_bytes<A: ByteSlots>(
 
 /// Appends the bytes of a slot, or so many zeros for a null.
 fn push_slot(bytes: &mut Vec<u8>, slot: Option<&[u8]>, zeros: usize) -> Mem<()>
-    ensures { OnOk result (bytes.new.items ≡ bytes.old.items ++ unwrap_or (seen_bytes slot.entry) (replicate zeros 0)) }
+    ensures { OnOk result (bytes.new.items ≡ bytes.old.items ++ unwrap_or (option_copied slot.entry) (replicate zeros 0)) }
 {
     match slot {
         Some(value) => bytes.extend_from_slice(value),
@@ -60,7 +60,7 @@ pub(crate) fn slot_lengths<A: ByteSlots>(alloc: Global, array: &A) -> Mem<Vec<us
 
 /// The count of bytes of a slot, 0 for a null.
 fn length_of(slot: Option<&[u8]>) -> usize
-    ensures { result ≡ count (unwrap_or (seen_bytes slot.entry) []) }
+    ensures { result ≡ count (unwrap_or (option_copied slot.entry) []) }
 {
     match slot {
         Some(value) => value.len(),

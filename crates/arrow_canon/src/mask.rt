@@ -1,7 +1,7 @@
 //! Canonical bits and masks.
 ghost use Rattle.std.specs.Prelude.{◌≡◌, IfOk};
 ghost use Rattle.arrow_buffers.specs.Bits.{plain};
-ghost use Rattle.arrow_flat.specs.Primitives.{seen_mask};
+ghost use Rattle.std.specs.Option.{option_copied};
 ghost use Rattle.arrow_canon.specs.Steps.{plain_mask};
 
 use arrow_buffers::{Bitmap, MutableBitmap};
@@ -19,7 +19,7 @@ pub(crate) fn plain_bits(alloc: Global, bits: &Bitmap) -> Mem<Bitmap>
 
 /// The mask with no bits before its own; none where no bit is unset.
 pub(crate) fn canonical_mask(alloc: Global, validity: Option<&Bitmap>) -> Mem<Option<Bitmap>>
-    ensures { IfOk result (λ m. m ≡ plain_mask (seen_mask validity.entry)) }
+    ensures { IfOk result (λ m. m ≡ plain_mask (option_copied validity.entry)) }
 {
     let Some(mask) = validity else {
         return Ok(None);

@@ -1,7 +1,7 @@
 //! The canonical array of an array of any layout.
 ghost use Rattle.std.specs.Prelude.{◌≡◌, Ok, IfOk, IsErrOf};
-ghost use Rattle.arrow_meaning.specs.Fits.{Fits};
-ghost use Rattle.arrow_meaning.specs.Nodes.{layout_of, numbers_of};
+ghost use Rattle.arrow_layout.specs.Fits.{Fits};
+ghost use Rattle.arrow_meaning.specs.Nodes.{layout_of, primitive_node_layout};
 ghost use Rattle.arrow_canon.specs.Canonical.{canonical_of, FitsAsViews};
 
 use crate::{
@@ -14,7 +14,7 @@ use std::alloc::Global;
 
 /// The canonical values of fixed width.
 fn canonical_numbers(alloc: Global, node: &PrimitiveNode) -> Mem<PrimitiveNode>
-    ensures { IfOk result (λ n. numbers_of n ≡ canonical_of (numbers_of node.now)) }
+    ensures { IfOk result (λ n. primitive_node_layout n ≡ canonical_of (primitive_node_layout node.now)) }
 {
     match node {
         PrimitiveNode::Int8(array) => canonical_primitive(alloc, array).map(PrimitiveNode::Int8),

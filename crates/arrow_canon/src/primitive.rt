@@ -3,8 +3,8 @@ ghost use Rattle.std.specs.Prelude.{◌≡◌, IfOk};
 ghost use Rattle.arrow_flat.specs.Primitives.{slots};
 ghost use Rattle.arrow_types.specs.Seen.{seen};
 ghost use Rattle.arrow_types.specs.declared.datatype.PhysicalType.TheVariants as physical;
-ghost use Rattle.arrow_meaning.specs.Denote.{denote};
-ghost use Rattle.arrow_meaning.specs.Canon.{canon};
+ghost use Rattle.arrow_layout.specs.Denote.{denote};
+ghost use Rattle.arrow_layout.specs.Canon.{canon};
 ghost use Rattle.arrow_meaning.specs.Nodes.{primitive_layout};
 ghost use Rattle.arrow_canon.specs.Steps.{values_or};
 

@@ -6,18 +6,17 @@ ghost use Rattle.arrow_flat.specs.Views.{is_short, longs};
 ghost use Rattle.arrow_types.specs.Seen.{seen};
 ghost use Rattle.arrow_types.specs.declared.error.GrowError.TheVariants as grow;
 ghost use Rattle.arrow_views.specs.ViewArrays.{slots};
-ghost use Rattle.arrow_pack.specs.Packing.{packed_on, packed_view};
-ghost use Rattle.arrow_meaning.specs.Canon.{canon};
-ghost use Rattle.arrow_meaning.specs.Denote.{denote};
-ghost use Rattle.arrow_meaning.specs.Fits.{Fits};
+ghost use Rattle.arrow_views.specs.Packing.{packed_on, packed_view};
+ghost use Rattle.arrow_layout.specs.Canon.{canon};
+ghost use Rattle.arrow_layout.specs.Denote.{denote};
+ghost use Rattle.arrow_layout.specs.Fits.{Fits};
 ghost use Rattle.arrow_meaning.specs.Nodes.{view_layout};
 ghost use Rattle.arrow_canon.specs.Steps.{values_or};
 
 use crate::mask::canonical_mask;
 use arrow_buffers::Buffer;
-use arrow_pack::ViewPacker;
 use arrow_types::{GrowError, Mem};
-use arrow_views::{BinaryViewArrayGeneric, View, ViewType};
+use arrow_views::{BinaryViewArrayGeneric, View, ViewPacker, ViewType};
 use std::alloc::Global;
 
 /// The most bytes that the values of a canonical array of views have together.

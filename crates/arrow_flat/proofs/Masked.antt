@@ -4,10 +4,10 @@ use Rattle.std.specs.Simd.Lanes.{zip2}
 use Rattle.std.proofs.lemmas.Nat.{mod_below}
 use Rattle.arrow_buffers.specs.Bits.{Bits, lead_of}
 use Rattle.arrow_buffers.proofs.Windows.{window_length}
-use Rattle.arrow_flat.specs.Primitives.{MaskFits, IsLed, cut_mask, masked, valid_at}
+use Rattle.arrow_flat.specs.Primitives.{MaskHasLength, IsLed, window_mask, masked_values, valid_at}
 
 -- ---- a mask that fits
-pub cut_fits : (m : Option Bits) (n o k : ℕ) → MaskFits m n → o + k ≤ n → MaskFits (cut_mask m o k) k
+pub cut_fits : (m : Option Bits) (n o k : ℕ) → MaskHasLength m n → o + k ≤ n → MaskHasLength (window_mask m o k) k
 cut_fits None n o k h l = tt
 cut_fits (Some b) n o k h l = sym (window_length b.bits o k (omega arith))
 
@@ -15,7 +15,7 @@ led_below : (start n : ℕ) → lead_of start n < 8
 led_below start zero = lit< tt
 led_below start (suc n) = mod_below start 8 (lit< tt)
 
-pub cut_led : (m : Option Bits) (o k : ℕ) → IsLed (cut_mask m o k)
+pub cut_led : (m : Option Bits) (o k : ℕ) → IsLed (window_mask m o k)
 cut_led None o k = tt
 cut_led (Some b) o k = led_below (b.lead + o) k
 
@@ -41,8 +41,8 @@ module _ {T : Type 0} where
   map_at (y ∷ ys) zero x e = ap Some e
   map_at (y ∷ ys) (suc i) x e = map_at ys i x e
 
-  pub slot_at : (m : Option Bits) (xs : List T) (i : ℕ) (x : T) → MaskFits m (length xs) → slice_get xs i ≡ Some x
-      → slice_get (masked m xs) i ≡ Some (under (valid_at m i) x)
+  pub slot_at : (m : Option Bits) (xs : List T) (i : ℕ) (x : T) → MaskHasLength m (length xs) → slice_get xs i ≡ Some x
+      → slice_get (masked_values m xs) i ≡ Some (under (valid_at m i) x)
   slot_at None xs i x h e = map_at xs i x e
   slot_at (Some b) xs i x h e = bits_at b.bits xs i x h e
 
@@ -54,8 +54,8 @@ module _ {T : Type 0} where
   bits_none (b ∷ bs) (y ∷ ys) zero h l e = ap (λ b. Some (under b y)) e
   bits_none (b ∷ bs) (y ∷ ys) (suc i) h l e = bits_none bs ys i (omega arith) (omega arith) e
 
-  pub null_at : (m : Option Bits) (xs : List T) (i : ℕ) → MaskFits m (length xs) → i < length xs → valid_at m i ≡ false
-      → slice_get (masked m xs) i ≡ Some None
+  pub null_at : (m : Option Bits) (xs : List T) (i : ℕ) → MaskHasLength m (length xs) → i < length xs → valid_at m i ≡ false
+      → slice_get (masked_values m xs) i ≡ Some None
   null_at None xs i h l e = cc
   null_at (Some b) xs i h l e = bits_none b.bits xs i h l e
 
@@ -69,7 +69,7 @@ module _ {T : Type 0} where
   map_length [] = refl
   map_length (x ∷ xs) = ap suc (map_length xs)
 
-  pub slots_length : (m : Option Bits) (xs : List T) → MaskFits m (length xs) → length (masked m xs) ≡ length xs
+  pub slots_length : (m : Option Bits) (xs : List T) → MaskHasLength m (length xs) → length (masked_values m xs) ≡ length xs
   slots_length None xs h = map_length xs
   slots_length (Some b) xs h = zip_length b.bits xs h
 

@@ -3,7 +3,7 @@ use Rattle.std.specs.Prelude.{◌-◌, ◌<◌, ℕ, Bool, List, length, Option}
 use Rattle.arrow_buffers.specs.Bits.{Bits, cut_bits}
 use Rattle.arrow_types.specs.declared.datatype.ArrowDataType.{ArrowDataType}
 use Rattle.arrow_types.specs.declared.datatype.PhysicalType.TheVariants as physical
-use Rattle.arrow_flat.specs.Primitives.{IsArray, masked, cut_mask, half_mask}
+use Rattle.arrow_flat.specs.Primitives.{IsArray, masked_values, window_mask, half_mask}
 
 -- the type, the values at all slots, and the mask
 pub record Booleans : Type 0 where
@@ -17,11 +17,11 @@ pub record IsSound (t : ArrowDataType) (m : Option Bits) (values : Bits) : Type 
   pub led : values.lead < 8
 
 abbrev pub slots : Booleans → List (Option Bool)
-slots a = masked a.mask a.values.bits
+slots a = masked_values a.mask a.values.bits
 
 -- The array of n slots from `offset` on.
 abbrev pub cut : Booleans → ℕ → ℕ → Booleans
-cut a offset n = record { dtype = a.dtype; values = cut_bits a.values offset n; mask = cut_mask a.mask offset n }
+cut a offset n = record { dtype = a.dtype; values = cut_bits a.values offset n; mask = window_mask a.mask offset n }
 
 -- The same, of which a mask without an unset bit goes.
 abbrev pub half : Booleans → ℕ → ℕ → Booleans

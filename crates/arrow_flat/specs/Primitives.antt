@@ -18,9 +18,9 @@ pub record Primitives (T : Type 0) : Type 0 where
   pub mask : Option Bits
 
 -- A mask has so many bits, if there is one.
-abbrev pub MaskFits : Option Bits → ℕ → Type 0
-MaskFits None n = Unit {0}
-MaskFits (Some b) n = length b.bits ≡ n
+abbrev pub MaskHasLength : Option Bits → ℕ → Type 0
+MaskHasLength None n = Unit {0}
+MaskHasLength (Some b) n = length b.bits ≡ n
 
 -- Fewer bits stand before those of a mask than a byte has.
 abbrev pub IsLed : Option Bits → Type 0
@@ -37,9 +37,9 @@ HasRange None offset n = Unit {0}
 HasRange (Some b) offset n = offset + n ≤ length b.bits
 
 -- The mask of n slots from `offset` on.
-abbrev pub cut_mask : Option Bits → ℕ → ℕ → Option Bits
-cut_mask None offset n = None
-cut_mask (Some b) offset n = Some (cut_bits b offset n)
+abbrev pub window_mask : Option Bits → ℕ → ℕ → Option Bits
+window_mask None offset n = None
+window_mask (Some b) offset n = Some (cut_bits b offset n)
 
 -- Whether a mask has so many bits, if there is one.
 abbrev pub HasBound : Option Bits → ℕ → Type 0
@@ -62,7 +62,7 @@ needed m = cond (nat_eq (unset_in m) 0) None m
 
 -- The mask of the half of a column that has n slots from `offset` on.
 abbrev pub half_mask : Option Bits → ℕ → ℕ → Option Bits
-half_mask m offset n = needed (cut_mask m offset n)
+half_mask m offset n = needed (window_mask m offset n)
 
 -- The two halves of a mask alone.
 abbrev pub front_mask : Option Bits → ℕ → Option Bits
@@ -73,7 +73,7 @@ rest_mask m n = half_mask m n (mask_count m - n)
 
 -- What every array keeps: a mask for its slots, and a type that columns have and that is stored in this layout.
 pub record IsArray (layout : PhysicalType) (t : ArrowDataType) (m : Option Bits) (n : ℕ) : Type 0 where
-  pub fits : MaskFits m n
+  pub fits : MaskHasLength m n
   pub led : IsLed m
   pub stored : physical_of (seen t) ≡ Some layout
   pub carried : IsCarried (seen t)
@@ -86,23 +86,18 @@ abbrev pub valid_at : Option Bits → ℕ → Bool
 valid_at None i = true
 valid_at (Some b) i = get_or b.bits i false
 
--- A mask that is lent.
-abbrev pub seen_mask : Option (Bor Bits) → Option Bits
-seen_mask None = None
-seen_mask (Some b) = Some b.now
-
 module _ {T : Type 0} where
   -- The values where the mask is set.
-  abbrev pub masked : Option Bits → List T → List (Option T)
-  masked None xs = map Some xs
-  masked (Some b) xs = zip2 (λ bit x. cond bit (Some x) None) b.bits xs
+  abbrev pub masked_values : Option Bits → List T → List (Option T)
+  masked_values None xs = map Some xs
+  masked_values (Some b) xs = zip2 (λ bit x. cond bit (Some x) None) b.bits xs
 
   abbrev pub slots : Primitives T → List (Option T)
-  slots a = masked a.mask a.values
+  slots a = masked_values a.mask a.values
 
   -- The array of n slots from `offset` on.
   abbrev pub cut : Primitives T → ℕ → ℕ → Primitives T
-  cut a offset n = record { dtype = a.dtype; values = take n (drop offset a.values); mask = cut_mask a.mask offset n }
+  cut a offset n = record { dtype = a.dtype; values = take n (drop offset a.values); mask = window_mask a.mask offset n }
 
   -- The same, of which a mask without an unset bit goes.
   abbrev pub half : Primitives T → ℕ → ℕ → Primitives T

@@ -3,7 +3,8 @@ ghost use Rattle.std.specs.Prelude.{◌≡◌, ◌+◌, ◌<◌, ◌≤◌, leng
 ghost use Rattle.arrow_types.specs.Seen.{seen};
 ghost use Rattle.arrow_types.specs.Types.{physical_of};
 ghost use Rattle.arrow_types.specs.declared.datatype.PhysicalType.TheVariants as physical;
-ghost use Rattle.arrow_flat.specs.Primitives.{MaskFits, valid_at, unset_in, seen_mask};
+ghost use Rattle.std.specs.Option.{option_copied};
+ghost use Rattle.arrow_flat.specs.Primitives.{MaskHasLength, valid_at, unset_in};
 ghost use Rattle.arrow_flat.specs.Booleans.{Booleans, IsSound, slots, cut, half};
 ghost use Rattle.arrow_flat.specs.Refusals.{Refused};
 
@@ -83,7 +84,7 @@ impl BooleanArray {
     ///
     /// Takes no memory.
     pub fn new(dtype: ArrowDataType, values: Bitmap, validity: Option<Bitmap>) -> BooleanArray
-        requires fits { MaskFits validity (count values.bits) }
+        requires fits { MaskHasLength validity (count values.bits) }
         requires stored { physical_of (seen dtype) ≡ Some physical.Boolean }
         ensures { result ≡ record { dtype = dtype; values = values; mask = validity } }
     {
@@ -117,7 +118,7 @@ impl BooleanArray {
 
     /// The mask, where there is one: a set bit for each slot that isn't null.
     pub fn validity(&self) -> Option<&Bitmap>
-        ensures { seen_mask result ≡ self.now.mask }
+        ensures { option_copied result ≡ self.now.mask }
     {
         self.validity.as_ref()
     }
@@ -208,7 +209,7 @@ impl BooleanArray {
 
     /// Puts another mask, or none, in the mask's place.
     pub fn set_validity(&mut self, validity: Option<Bitmap>)
-        requires { MaskFits validity (count self.old.values.bits) }
+        requires { MaskHasLength validity (count self.old.values.bits) }
         ensures { self.new ≡ record { dtype = self.old.dtype; values = self.old.values; mask = validity } }
     {
         know_led(&validity);

@@ -3,7 +3,7 @@ ghost use Rattle.std.specs.Prelude.{◌≡◌, ◌+◌, ◌<◌, ◌≤◌, leng
 ghost use Rattle.arrow_types.specs.Seen.{seen};
 ghost use Rattle.arrow_types.specs.Types.{physical_of};
 ghost use Rattle.arrow_types.specs.declared.datatype.PhysicalType.TheVariants as physical;
-ghost use Rattle.arrow_flat.specs.Primitives.{MaskFits, IsSound};
+ghost use Rattle.arrow_flat.specs.Primitives.{MaskHasLength, IsSound};
 
 use crate::native::{DaysMs, MonthDayNano, NativeType};
 use crate::stored::is_stored_as;
@@ -52,7 +52,8 @@ impl<T: NativeType> Model for PrimitiveArray<T> {
 }
 
 impl<T: NativeType> PrimitiveArray<T> {
-    ghost use Rattle.arrow_flat.specs.Primitives.{Primitives, slots, valid_at, unset_in, cut, half, seen_mask};
+    ghost use Rattle.std.specs.Option.{option_copied};
+    ghost use Rattle.arrow_flat.specs.Primitives.{Primitives, slots, valid_at, unset_in, cut, half};
     ghost use Rattle.arrow_flat.specs.Refusals.{Refused};
 
     /// The array of these parts. Refused as ComputeError(MaskLength) where a mask is there and hasn't one bit a value, then as
@@ -89,7 +90,7 @@ impl<T: NativeType> PrimitiveArray<T> {
         values: Buffer<T>,
         validity: Option<Bitmap>,
     ) -> PrimitiveArray<T>
-        requires fits { MaskFits validity (count values) }
+        requires fits { MaskHasLength validity (count values) }
         requires stored { physical_of (seen dtype) ≡ Some (physical.Primitive T.PRIMITIVE) }
         ensures { result ≡ record { dtype = dtype; values = values; mask = validity } }
     {
@@ -123,7 +124,7 @@ impl<T: NativeType> PrimitiveArray<T> {
 
     /// The mask, where there is one: a set bit for each slot that isn't null.
     pub fn validity(&self) -> Option<&Bitmap>
-        ensures { seen_mask result ≡ self.now.mask }
+        ensures { option_copied result ≡ self.now.mask }
     {
         self.validity.as_ref()
     }
@@ -217,7 +218,7 @@ impl<T: NativeType> PrimitiveArray<T> {
 
     /// Puts another mask, or none, in the mask's place.
     pub fn set_validity(&mut self, validity: Option<Bitmap>)
-        requires { MaskFits validity (count self.old.values) }
+        requires { MaskHasLength validity (count self.old.values) }
         ensures { self.new ≡ record { dtype = self.old.dtype; values = self.old.values; mask = validity } }
     {
         know_led(&validity);

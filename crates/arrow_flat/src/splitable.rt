@@ -1,5 +1,5 @@
 //! Cutting in two.
-ghost use Rattle.std.specs.Prelude.{◌≡◌, ℕ, Decides, IfOk};
+ghost use Rattle.std.specs.Prelude.{◌≡◌, ◌↔◌, ℕ, IfOk, IsTrue};
 ghost use Rattle.arrow_flat.specs.Primitives.{HasBound, front_mask, rest_mask};
 
 use crate::validity::half_mask;
@@ -17,7 +17,7 @@ pub trait Splitable: Sized {
 
     /// Whether the offset is at most the length.
     fn check_bound(&self, offset: usize) -> bool
-        ensures { Decides result (HasBound self.now offset) };
+        ensures { IsTrue result ↔ (HasBound self.now offset) };
 
     /// The first `offset` slots or bits, and the rest. The halves share the buffers, and a half's mask without an unset bit goes.
     fn split_at(&self, alloc: Global, offset: usize) -> Mem<(Self, Self)>

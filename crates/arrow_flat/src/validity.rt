@@ -1,6 +1,6 @@
 //! Masks: a set bit for each slot that isn't null; without a mask no slot is null.
-ghost use Rattle.std.specs.Prelude.{◌≡◌, Decides, IfOk};
-ghost use Rattle.arrow_flat.specs.Primitives.{MaskFits, IsLed, HasBit, HasRange, valid_at, unset_in, cut_mask, needed, half_mask};
+ghost use Rattle.std.specs.Prelude.{◌≡◌, ◌↔◌, IfOk, IsTrue};
+ghost use Rattle.arrow_flat.specs.Primitives.{MaskHasLength, IsLed, HasBit, HasRange, valid_at, unset_in, window_mask, needed, half_mask};
 
 use arrow_buffers::Bitmap;
 use arrow_types::Mem;
@@ -8,7 +8,7 @@ use std::alloc::Global;
 
 /// Whether a mask, if there is one, has this length.
 pub fn mask_fits(validity: &Option<Bitmap>, length: usize) -> bool
-    ensures fits { Decides result (MaskFits validity.now length) }
+    ensures fits { IsTrue result ↔ (MaskHasLength validity.now length) }
     ensures led { IsLed validity.now }
 {
     match validity {
@@ -50,7 +50,7 @@ pub fn null_count(validity: &Option<Bitmap>) -> usize
 /// Keeps the bits of `length` slots from `offset` on.
 pub fn slice_mask(validity: &mut Option<Bitmap>, offset: usize, length: usize)
     requires { HasRange validity.old offset length }
-    ensures { validity.new ≡ cut_mask validity.old offset length }
+    ensures { validity.new ≡ window_mask validity.old offset length }
 {
     if let Some(mask) = validity {
         mask.slice(offset, length);

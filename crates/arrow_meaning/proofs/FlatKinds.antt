@@ -6,9 +6,9 @@ use Rattle.arrow_types.specs.TypeData as T
 use Rattle.arrow_types.specs.Types.{physical_of}
 use Rattle.arrow_types.specs.declared.datatype.PhysicalType.{PhysicalType}
 use Rattle.arrow_types.specs.declared.datatype.PhysicalType.TheVariants as physical
-use Rattle.arrow_bytes.specs.FixedSizeBinaries.{size_of}
-use Rattle.arrow_meaning.specs.Forms.{Form, binaries_of, booleans_of, dictionaries_of, fixed_size_binaries_of, fixed_size_lists_of, form_of, lists_of, no_form, nulls_of, primitives_of, structs_of, unions_of, views_of}
-use Rattle.arrow_meaning.proofs.Physical.{list_kind, physical_by, physical-by}
+use Rattle.arrow_bytes.specs.FixedSizeBinaries.{declared_size}
+use Rattle.arrow_layout.specs.Forms.{Form, binaries_of, booleans_of, dictionaries_of, fixed_size_binaries_of, fixed_size_lists_of, form_of, lists_of, no_form, nulls_of, primitives_of, structs_of, unions_of, views_of}
+use Rattle.arrow_layout.proofs.Physical.{list_kind, physical_by, physical-by}
 
 -- the physical types of which the form is known
 abbrev pub IsFlatKind : PhysicalType → Type 0
@@ -71,15 +71,15 @@ form_back t no_form q e h = absurd (no_kind q e)
 pub flat_form : (t : TypeData) (q : PhysicalType) → physical_of t ≡ Some q → IsFlatKind q → form_of t ≡ kind_form q
 flat_form t q e h = form_back t (form_of t) q (sym (physical-by t) ∙ e) h
 
-pub sized_form : (t : TypeData) (k : ℕ) → size_of t ≡ Some k → form_of t ≡ fixed_size_binaries_of k
+pub sized_form : (t : TypeData) (k : ℕ) → declared_size t ≡ Some k → form_of t ≡ fixed_size_binaries_of k
 sized_form (T.fixed_size_binary j) k e = let same : j ≡ k = cc in ap fixed_size_binaries_of same
 sized_form (T.extension n t m) k e = sized_form t k e
 sized_form _ k e = cc
 
-pub form_sized : (t : TypeData) (k : ℕ) → form_of t ≡ fixed_size_binaries_of k → size_of t ≡ Some k
+pub form_sized : (t : TypeData) (k : ℕ) → form_of t ≡ fixed_size_binaries_of k → declared_size t ≡ Some k
 form_sized t k e = by t (form_of t) k refl e
   where
-    by : (t : TypeData) (f : Form) (k : ℕ) → form_of t ≡ f → f ≡ fixed_size_binaries_of k → size_of t ≡ Some k
+    by : (t : TypeData) (f : Form) (k : ℕ) → form_of t ≡ f → f ≡ fixed_size_binaries_of k → declared_size t ≡ Some k
     by (T.fixed_size_binary j) f k e h = cc
     by (T.extension n t m) f k e h = by t f k e h
     by (T.list (T.field n t b m)) f k e h = cc

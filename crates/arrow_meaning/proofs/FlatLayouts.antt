@@ -11,7 +11,7 @@ use Rattle.arrow_buffers.proofs.Windows.{window_length}
 use Rattle.arrow_buffers.specs.Offsets.{end_from, end_of}
 use Rattle.arrow_buffers.specs.Offsets as buffers
 use Rattle.arrow_types.specs.Carried.{IsBelow}
-use Rattle.arrow_types.specs.Select.{to_nat}
+use Rattle.arrow_types.specs.Select.{nat_of}
 use Rattle.arrow_types.specs.Seen.{seen}
 use Rattle.arrow_types.specs.TypeData.{TypeData}
 use Rattle.arrow_types.specs.Types.{physical_of}
@@ -20,24 +20,25 @@ use Rattle.arrow_flat.specs.Booleans.{Booleans}
 use Rattle.arrow_flat.specs.Booleans as bools
 use Rattle.arrow_flat.specs.Natives.{octets}
 use Rattle.arrow_flat.specs.Pieces.{pieces, AreTexts}
-use Rattle.arrow_flat.specs.Primitives.{Primitives, MaskFits as MaskCovers, IsArray}
+use Rattle.arrow_flat.specs.Primitives.{Primitives, MaskHasLength as MaskCovers, IsArray}
 use Rattle.arrow_flat.specs.Primitives as flat
 use Rattle.arrow_flat.proofs.Pieces.{span_within, whole_count}
 use Rattle.arrow_bytes.specs.Binaries.{Binaries}
 use Rattle.arrow_bytes.specs.Binaries as bytes
-use Rattle.arrow_bytes.specs.FixedSizeBinaries.{FixedSizeBinaries, count_of}
+use Rattle.arrow_bytes.specs.FixedSizeBinaries.{FixedSizeBinaries, slot_count}
 use Rattle.arrow_bytes.specs.FixedSizeBinaries as sized
-use Rattle.arrow_meaning.specs.Cut.{part, cut_mask, cut}
-use Rattle.arrow_meaning.specs.Forms.{form_of, booleans_of, binaries_of, views_of, large_by, text_by}
+use Rattle.arrow_layout.specs.Cut.{part, cut_mask, cut}
+use Rattle.arrow_layout.specs.Forms.{form_of, booleans_of, binaries_of, views_of, large_by, text_by}
 use Rattle.arrow_views.specs.ViewArrays.{ViewArray, AreTextsIf, values_in}
 use Rattle.arrow_views.specs.ViewArrays as viewed
-use Rattle.arrow_meaning.specs.Layouts.{booleans, primitives, binaries, fixed_size_binaries, views}
+use Rattle.arrow_layout.specs.Layouts.{booleans, primitives, binaries, fixed_size_binaries, views}
 use Rattle.arrow_meaning.specs.Nodes.{boolean_layout, primitive_layout, binary_layout, fixed_size_binary_layout, view_layout}
-use Rattle.arrow_meaning.specs.SlotsOf.{IsTextIf, AreBytes}
-use Rattle.arrow_meaning.specs.WellFormed.{IsColumn, WellFormed, AreOffsets, AscendTo}
+use Rattle.arrow_flat.specs.Natives.{AreBytes}
+use Rattle.arrow_layout.specs.SlotsOf.{IsTextIf}
+use Rattle.arrow_layout.specs.WellFormed.{IsColumnOf, WellFormed, AreOffsetsWithin, AscendTo}
 use Rattle.arrow_meaning.proofs.FlatKinds.{flat_form, sized_form}
 use Rattle.arrow_meaning.proofs.Octets.{are_octets, octets_count, texts_of_octets}
-use Rattle.arrow_meaning.proofs.Physical.{binary_kind}
+use Rattle.arrow_layout.proofs.Physical.{binary_kind}
 use Rattle.arrow_meaning.proofs.Primitives.{mask_fits}
 
 -- ---- booleans
@@ -58,12 +59,12 @@ all_below limit least (pos n ∷ os) p h = let q = h.1 in (omega (arith, ints, q
 all_below limit (pos k) (negsuc n ∷ os) p h = absurd (let q = h.0 in omega (arith, ints, q))
 all_below limit (negsuc k) (negsuc n ∷ os) p h = absurd (omega (arith, ints, p))
 
-ascend_to : (limit top a : ℕ) (os : List ℤ) → buffers.Ascend limit (pos a) os → end_from a os ≤ top → AscendTo top a (map to_nat os)
+ascend_to : (limit top a : ℕ) (os : List ℤ) → buffers.Ascend limit (pos a) os → end_from a os ≤ top → AscendTo top a (map nat_of os)
 ascend_to limit top a [] h e = e
 ascend_to limit top a (pos n ∷ os) h e = let q = h.0 in (omega (arith, ints, q), ascend_to limit top n os h.2 e)
 ascend_to limit top a (negsuc n ∷ os) h e = absurd (let q = h.0 in omega (arith, ints, q))
 
-pub are_offsets : (limit top : ℕ) (os : List ℤ) → buffers.AreOffsets limit os → end_of os ≤ top → AreOffsets limit top os
+pub are_offsets : (limit top : ℕ) (os : List ℤ) → buffers.AreOffsets limit os → end_of os ≤ top → AreOffsetsWithin limit top os
 are_offsets limit top [] h e = absurd h
 are_offsets limit top (pos n ∷ os) h e =
     record { in_range = all_below limit (pos 0) (pos n ∷ os) (omega (arith, ints)) h; ascend = ascend_to limit top n os h.2 e }
@@ -77,21 +78,21 @@ kind_form false true t e = flat_form t physical.Utf8 e tt
 kind_form true false t e = flat_form t physical.LargeBinary e tt
 kind_form true true t e = flat_form t physical.LargeUtf8 e tt
 
-bytes_kind : (large : Bool) → bytes.binary_layout large ≡ binary_kind large false
+bytes_kind : (large : Bool) → bytes.physical_binary large ≡ binary_kind large false
 bytes_kind true = refl
 bytes_kind false = refl
 
-text_kind : (large : Bool) → bytes.text_layout large ≡ binary_kind large true
+text_kind : (large : Bool) → bytes.physical_utf8 large ≡ binary_kind large true
 text_kind true = refl
 text_kind false = refl
 
-pub binary_form : (large : Bool) (t : TypeData) → physical_of t ≡ Some (bytes.binary_layout large) → form_of t ≡ binaries_of large false
+pub binary_form : (large : Bool) (t : TypeData) → physical_of t ≡ Some (bytes.physical_binary large) → form_of t ≡ binaries_of large false
 binary_form large t e = kind_form large false t (e ∙ ap Some (bytes_kind large))
 
-pub utf8_form : (large : Bool) (t : TypeData) → physical_of t ≡ Some (bytes.text_layout large) → form_of t ≡ binaries_of large true
+pub utf8_form : (large : Bool) (t : TypeData) → physical_of t ≡ Some (bytes.physical_utf8 large) → form_of t ≡ binaries_of large true
 utf8_form large t e = kind_form large true t (e ∙ ap Some (text_kind large))
 
-same_naturals : (os : List ℤ) → map buffers.to_nat os ≡ map to_nat os
+same_naturals : (os : List ℤ) → map buffers.to_nat os ≡ map nat_of os
 same_naturals [] = refl
 same_naturals (pos n ∷ os) = ap (λ ns. n ∷ ns) (same_naturals os)
 same_naturals (negsuc n ∷ os) = ap (λ ns. 0 ∷ ns) (same_naturals os)
@@ -107,35 +108,35 @@ all_texts (x ∷ xs) h = (h.0, all_texts xs h.1)
 module _ {O : Type 0} (number : O → ℤ) where
   by_parts : (large text : Bool) (limit : ℕ) (a : Binaries O) → IsArray (binary_kind large text) a.dtype a.mask (pred (length (map number a.offsets))) → end_of (map number a.offsets) ≤ length a.values
       → limit ≡ cond large (2 ^ 63) (2 ^ 31) → buffers.AreOffsets limit (map number a.offsets) → pred (length (map number a.offsets)) < 2 ^ 64 → length a.values < 2 ^ 64
-      → AllByRecursion (IsTextIf text) (pieces (map to_nat (map number a.offsets)) (octets a.values)) → WellFormed (binary_layout number a)
+      → AllByRecursion (IsTextIf text) (pieces (map nat_of (map number a.offsets)) (octets a.values)) → WellFormed (binary_layout number a)
   by_parts large text limit a array within e ascend slots short texts =
       let form = kind_form large text (seen a.dtype) array.stored in
       let l : large ≡ large_by (form_of (seen a.dtype)) = sym (ap large_by form) in
       let t : text ≡ text_by (form_of (seen a.dtype)) = sym (ap text_by form) in
       let count = octets_count a.values in (
-        subst (λ x. IsColumn (seen a.dtype) (binaries_of x (text_by (form_of (seen a.dtype)))) a.mask (pred (length (map number a.offsets)))) l
-            (subst (λ x. IsColumn (seen a.dtype) (binaries_of large x) a.mask (pred (length (map number a.offsets)))) t
+        subst (λ x. IsColumnOf (seen a.dtype) (binaries_of x (text_by (form_of (seen a.dtype)))) a.mask (pred (length (map number a.offsets)))) l
+            (subst (λ x. IsColumnOf (seen a.dtype) (binaries_of large x) a.mask (pred (length (map number a.offsets)))) t
             (record { carried = array.carried; of_form = form; mask = mask_fits a.mask (pred (length (map number a.offsets))) array.fits array.led; count = slots })),
-        subst (λ n. AreOffsets n (length (octets a.values)) (map number a.offsets)) (e ∙ ap (λ x. cond x (2 ^ 63) (2 ^ 31)) l)
-            (subst (λ n. AreOffsets limit n (map number a.offsets)) (sym count) (are_offsets limit (length a.values) (map number a.offsets) ascend within)),
+        subst (λ n. AreOffsetsWithin n (length (octets a.values)) (map number a.offsets)) (e ∙ ap (λ x. cond x (2 ^ 63) (2 ^ 31)) l)
+            (subst (λ n. AreOffsetsWithin limit n (map number a.offsets)) (sym count) (are_offsets limit (length a.values) (map number a.offsets) ascend within)),
         are_octets a.values,
         omega (arith, count, short),
-        subst (λ x. AllByRecursion (IsTextIf x) (pieces (map to_nat (map number a.offsets)) (octets a.values))) t texts,
+        subst (λ x. AllByRecursion (IsTextIf x) (pieces (map nat_of (map number a.offsets)) (octets a.values))) t texts,
       )
 
-  pub well_formed_binary : (large : Bool) (limit : ℕ) (a : Binaries O) → bytes.IsSound (bytes.binary_layout large) a.dtype a.mask (map number a.offsets) (length a.values)
+  pub well_formed_binary : (large : Bool) (limit : ℕ) (a : Binaries O) → bytes.IsSound (bytes.physical_binary large) a.dtype a.mask (map number a.offsets) (length a.values)
       → limit ≡ cond large (2 ^ 63) (2 ^ 31) → buffers.AreOffsets limit (map number a.offsets) → pred (length (map number a.offsets)) < 2 ^ 64 → length a.values < 2 ^ 64 → WellFormed (binary_layout number a)
   well_formed_binary large limit a sound e ascend slots short =
       by_parts large false limit a (subst (λ k. IsArray k a.dtype a.mask (pred (length (map number a.offsets)))) (bytes_kind large) sound.array) sound.within e ascend slots short
-      (all_bytes (pieces (map to_nat (map number a.offsets)) (octets a.values)))
+      (all_bytes (pieces (map nat_of (map number a.offsets)) (octets a.values)))
 
-  pub well_formed_utf8 : (large : Bool) (limit : ℕ) (a : Binaries O) → bytes.IsSound (bytes.text_layout large) a.dtype a.mask (map number a.offsets) (length a.values)
+  pub well_formed_utf8 : (large : Bool) (limit : ℕ) (a : Binaries O) → bytes.IsSound (bytes.physical_utf8 large) a.dtype a.mask (map number a.offsets) (length a.values)
       → AreTexts (pieces (map buffers.to_nat (map number a.offsets)) a.values)
       → limit ≡ cond large (2 ^ 63) (2 ^ 31) → buffers.AreOffsets limit (map number a.offsets) → pred (length (map number a.offsets)) < 2 ^ 64 → length a.values < 2 ^ 64 → WellFormed (binary_layout number a)
   well_formed_utf8 large limit a sound texts e ascend slots short =
       by_parts large true limit a (subst (λ k. IsArray k a.dtype a.mask (pred (length (map number a.offsets)))) (text_kind large) sound.array) sound.within e ascend slots short
-      (all_texts (pieces (map to_nat (map number a.offsets)) (octets a.values))
-      (texts_of_octets (map to_nat (map number a.offsets)) a.values (subst (λ ns. AreTexts (pieces ns a.values)) (same_naturals (map number a.offsets)) texts)))
+      (all_texts (pieces (map nat_of (map number a.offsets)) (octets a.values))
+      (texts_of_octets (map nat_of (map number a.offsets)) a.values (subst (λ ns. AreTexts (pieces ns a.values)) (same_naturals (map number a.offsets)) texts)))
 
 -- as many slots as a usize counts
 pub slots_short : {O : Type 0} (number : O → ℤ) (os : List O) (n : ℕ) → n + 1 ≡ length os → n < 2 ^ 64 → pred (length (map number os)) < 2 ^ 64
@@ -148,11 +149,11 @@ slots_short number os n e l =
 
 -- ---- byte strings of one size
 
-pub well_formed_sized : (a : FixedSizeBinaries) → sized.IsSound a.dtype a.size a.mask (length a.values) → length a.values < 2 ^ 64 → count_of a < 2 ^ 64 → WellFormed (fixed_size_binary_layout a)
+pub well_formed_sized : (a : FixedSizeBinaries) → sized.IsSound a.dtype a.size a.mask (length a.values) → length a.values < 2 ^ 64 → slot_count a < 2 ^ 64 → WellFormed (fixed_size_binary_layout a)
 well_formed_sized a sound short slots =
     let count = octets_count a.values in
     let whole : length a.values ≡ length a.values / a.size * a.size = multiple (length a.values) a.size sound.multiple in (
-      record { carried = sound.carried; of_form = sized_form (seen a.dtype) a.size sound.sized; mask = mask_fits a.mask (count_of a) sound.fits sound.led; count = slots },
+      record { carried = sound.carried; of_form = sized_form (seen a.dtype) a.size sound.sized; mask = mask_fits a.mask (slot_count a) sound.fits sound.led; count = slots },
       count ∙ whole,
       are_octets a.values,
       omega (arith, count, short),
@@ -217,18 +218,18 @@ binaries_part number a b v o n e m =
     ∙ ap (λ w. binaries (seen a.dtype) w (map number (take (suc n) (drop o a.offsets))) (octets a.values)) m
     ∙ ap (λ os. binaries (seen a.dtype) (cut_mask o n a.mask) os (octets a.values)) (part-map number o (suc n) a.offsets)
 
-pub fixed_size_binaries_part : (a b : FixedSizeBinaries) (v : Option Bits) (o n : ℕ) → 0 < a.size → o + n ≤ count_of a → b ≡ sized.cut a o n → v ≡ cut_mask o n a.mask
-    → fixed_size_binaries (seen b.dtype) v b.size (count_of b) (octets b.values) ≡ cut (fixed_size_binary_layout a) o n
+pub fixed_size_binaries_part : (a b : FixedSizeBinaries) (v : Option Bits) (o n : ℕ) → 0 < a.size → o + n ≤ slot_count a → b ≡ sized.cut a o n → v ≡ cut_mask o n a.mask
+    → fixed_size_binaries (seen b.dtype) v b.size (slot_count b) (octets b.values) ≡ cut (fixed_size_binary_layout a) o n
 fixed_size_binaries_part a b v o n p h e m =
     let k = a.size in
-    ap (λ c. fixed_size_binaries (seen c.dtype) v c.size (count_of c) (octets c.values)) e
+    ap (λ c. fixed_size_binaries (seen c.dtype) v c.size (slot_count c) (octets c.values)) e
     ∙ ap (λ w. fixed_size_binaries (seen a.dtype) w k (length (take (n * k) (drop (o * k) a.values)) / k) (octets (take (n * k) (drop (o * k) a.values)))) m
     ∙ ap (λ i. fixed_size_binaries (seen a.dtype) (cut_mask o n a.mask) k i (octets (take (n * k) (drop (o * k) a.values)))) (sym (chunks_part a.values k o n p h))
     ∙ ap (fixed_size_binaries (seen a.dtype) (cut_mask o n a.mask) k n) (part-map (λ b. b % 256) (o * k) (n * k) a.values)
 
 -- ---- views
 
-pub view_form : (text : Bool) (t : TypeData) → physical_of t ≡ Some (viewed.view_layout text) → form_of t ≡ views_of text
+pub view_form : (text : Bool) (t : TypeData) → physical_of t ≡ Some (viewed.physical_view text) → form_of t ≡ views_of text
 view_form true t e = flat_form t physical.Utf8View e tt
 view_form false t e = flat_form t physical.BinaryView e tt
 
@@ -244,7 +245,7 @@ pub well_formed_view : (text : Bool) (a : ViewArray) (raw : List (List ℕ)) →
 well_formed_view text a raw sound e short =
     let form = view_form text (seen a.dtype) sound.array.stored in
     let t : text ≡ text_by (form_of (seen a.dtype)) = sym (ap text_by form) in (
-      subst (λ x. IsColumn (seen a.dtype) (views_of x) a.mask (length a.views)) t
+      subst (λ x. IsColumnOf (seen a.dtype) (views_of x) a.mask (length a.views)) t
           (record { carried = sound.array.carried; of_form = form; mask = mask_fits a.mask (length a.views) sound.array.fits sound.array.led; count = short }),
       sound.placed,
       subst (AllByRecursion AreBytes) e (buffers_are_bytes raw),

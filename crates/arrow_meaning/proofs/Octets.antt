@@ -6,7 +6,7 @@ use Rattle.std.specs.Str.{encode_utf8_all, all_scalars}
 use Rattle.std.proofs.lemmas.List.{take-map, drop-map, length-map}
 use Rattle.arrow_flat.specs.Natives.{octets}
 use Rattle.arrow_flat.specs.Pieces.{pieces, pieces_from, chunks, AreTexts}
-use Rattle.arrow_meaning.specs.SlotsOf.{AreBytes}
+use Rattle.arrow_flat.specs.Natives.{AreBytes}
 
 are_bytes_append : (xs ys : List ℕ) → AreBytes xs → AreBytes ys → AreBytes (xs ++ ys)
 are_bytes_append [] ys h k = k

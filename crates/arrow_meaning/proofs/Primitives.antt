@@ -12,14 +12,14 @@ use Rattle.arrow_types.specs.Types.{physical_of}
 use Rattle.arrow_types.specs.declared.datatype.PhysicalType.TheVariants as physical
 use Rattle.arrow_types.specs.declared.datatype.PrimitiveType.{PrimitiveType}
 use Rattle.arrow_flat.specs.Numbers.{IsNumber}
-use Rattle.arrow_flat.specs.Primitives.{Primitives, MaskFits as MaskCovers, IsLed, IsSound, masked as option_masked}
+use Rattle.arrow_flat.specs.Primitives.{Primitives, MaskHasLength as MaskCovers, IsLed, IsSound, masked_values as option_masked}
 use Rattle.arrow_flat.specs.Slots.{null, num}
-use Rattle.arrow_meaning.specs.Denote.{masked_by, masked}
-use Rattle.arrow_meaning.specs.Forms.{Form, nulls_of, booleans_of, primitives_of, binaries_of, fixed_size_binaries_of, views_of, lists_of, fixed_size_lists_of, structs_of, unions_of, dictionaries_of, no_form, form_of, primitive_by}
-use Rattle.arrow_meaning.specs.Layouts.{primitives}
+use Rattle.arrow_layout.specs.Denote.{masked_by, masked}
+use Rattle.arrow_layout.specs.Forms.{Form, nulls_of, booleans_of, primitives_of, binaries_of, fixed_size_binaries_of, views_of, lists_of, fixed_size_lists_of, structs_of, unions_of, dictionaries_of, no_form, form_of, primitive_by}
+use Rattle.arrow_layout.specs.Layouts.{primitives}
 use Rattle.arrow_meaning.specs.Nodes.{primitive_layout, primitive_slot}
-use Rattle.arrow_meaning.specs.WellFormed.{MaskFits, IsColumn, WellFormed}
-use Rattle.arrow_meaning.proofs.Physical.{list_kind, physical_by, physical-by}
+use Rattle.arrow_layout.specs.WellFormed.{MaskFits, IsColumnOf, WellFormed}
+use Rattle.arrow_layout.proofs.Physical.{list_kind, physical_by, physical-by}
 
 -- ---- its type
 
@@ -65,11 +65,11 @@ are_numbers : {T : Type 0} (p : PrimitiveType) (parts : T → List ℤ) → ((x 
 are_numbers p parts h [] = tt
 are_numbers p parts h (x ∷ xs) = (h x, are_numbers p parts h xs)
 
-well_formed_by : (t : TypeData) (p : PrimitiveType) (m : Option Bits) (xs : List (List ℤ)) → form_of t ≡ primitives_of p → IsColumn t (primitives_of p) m (length xs) → AllByRecursion (IsNumber p) xs
+well_formed_by : (t : TypeData) (p : PrimitiveType) (m : Option Bits) (xs : List (List ℤ)) → form_of t ≡ primitives_of p → IsColumnOf t (primitives_of p) m (length xs) → AllByRecursion (IsNumber p) xs
     → WellFormed (primitives t m xs)
 well_formed_by t p m xs e h k =
     let same : p ≡ primitive_by (form_of t) = sym (ap primitive_by e) in
-    (subst (λ q. IsColumn t (primitives_of q) m (length xs)) same h, subst (λ q. AllByRecursion (IsNumber q) xs) same k)
+    (subst (λ q. IsColumnOf t (primitives_of q) m (length xs)) same h, subst (λ q. AllByRecursion (IsNumber q) xs) same k)
 
 pub well_formed_primitive : {T : Type 0} (p : PrimitiveType) (parts : T → List ℤ) → ((x : T) → IsNumber p (parts x)) → (a : Primitives T) → IsSound p a.dtype a.mask (length a.values) → length a.values < 2 ^ 64
     → WellFormed (primitive_layout parts a)

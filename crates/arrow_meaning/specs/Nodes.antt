@@ -5,7 +5,7 @@ use Rattle.arrow_types.specs.Seen.{seen}
 use Rattle.arrow_types.specs.declared.datatype.PrimitiveType.{PrimitiveType}
 use Rattle.arrow_types.specs.declared.datatype.PrimitiveType.TheVariants as primitive
 use Rattle.arrow_bytes.specs.Binaries.{Binaries}
-use Rattle.arrow_bytes.specs.FixedSizeBinaries.{FixedSizeBinaries, count_of}
+use Rattle.arrow_bytes.specs.FixedSizeBinaries.{FixedSizeBinaries, slot_count}
 use Rattle.arrow_flat.specs.Booleans.{Booleans}
 use Rattle.arrow_flat.specs.Natives.{signed, unsigned, days_ms, month_day_nano, octets}
 use Rattle.arrow_flat.specs.Primitives.{Primitives}
@@ -15,8 +15,8 @@ use Rattle.arrow_meaning.specs.declared.primitive.PrimitiveNode.{PrimitiveNode}
 use Rattle.arrow_meaning.specs.declared.primitive.PrimitiveNode.TheVariants as array
 use Rattle.arrow_meaning.specs.declared.node.Node.{Node}
 use Rattle.arrow_meaning.specs.declared.node.Node.TheVariants as node
-use Rattle.arrow_meaning.specs.Forms.{Form, booleans_of, primitives_of, binaries_of, fixed_size_binaries_of, views_of, form_of}
-use Rattle.arrow_meaning.specs.Layouts.{Layout, booleans, primitives, binaries, fixed_size_binaries, views}
+use Rattle.arrow_layout.specs.Forms.{Form, booleans_of, primitives_of, binaries_of, fixed_size_binaries_of, views_of, form_of}
+use Rattle.arrow_layout.specs.Layouts.{Layout, booleans, primitives, binaries, fixed_size_binaries, views}
 
 -- The layout of an array, given the numbers of its values.
 abbrev pub primitive_layout : {T : Type 0} → (T → List ℤ) → Primitives T → Layout
@@ -35,7 +35,7 @@ abbrev pub binary_layout : {O : Type 0} → (O → ℤ) → Binaries O → Layou
 binary_layout number a = binaries (seen a.dtype) a.mask (map number a.offsets) (octets a.values)
 
 abbrev pub fixed_size_binary_layout : FixedSizeBinaries → Layout
-fixed_size_binary_layout a = fixed_size_binaries (seen a.dtype) a.mask a.size (count_of a) (octets a.values)
+fixed_size_binary_layout a = fixed_size_binaries (seen a.dtype) a.mask a.size (slot_count a) (octets a.values)
 
 abbrev pub view_layout : ViewArray → Layout
 view_layout a = views (seen a.dtype) a.mask a.views a.buffers
@@ -47,9 +47,9 @@ IsBooleans (booleans t m vs) = ⊤
 IsBooleans _ = ⊥
 
 -- values of the primitive type
-abbrev pub Holds : PrimitiveType → Layout → Type 0
-Holds p (primitives t m xs) = form_of t ≡ primitives_of p
-Holds p _ = ⊥
+abbrev pub HoldsPrimitive : PrimitiveType → Layout → Type 0
+HoldsPrimitive p (primitives t m xs) = form_of t ≡ primitives_of p
+HoldsPrimitive p _ = ⊥
 
 -- byte strings, or texts, with offsets that are large or not
 abbrev pub HoldsBytes : Bool → Bool → Layout → Type 0
@@ -67,35 +67,35 @@ HoldsViews text _ = ⊥
 
 -- ---- nodes
 
-abbrev pub number_of : PrimitiveNode → PrimitiveType
-number_of (array.Int8 a) = primitive.Int8
-number_of (array.Int16 a) = primitive.Int16
-number_of (array.Int32 a) = primitive.Int32
-number_of (array.Int64 a) = primitive.Int64
-number_of (array.Int128 a) = primitive.Int128
-number_of (array.UInt8 a) = primitive.UInt8
-number_of (array.UInt16 a) = primitive.UInt16
-number_of (array.UInt32 a) = primitive.UInt32
-number_of (array.UInt64 a) = primitive.UInt64
-number_of (array.DaysMs a) = primitive.DaysMs
-number_of (array.MonthDayNano a) = primitive.MonthDayNano
+abbrev pub primitive_type_of : PrimitiveNode → PrimitiveType
+primitive_type_of (array.Int8 a) = primitive.Int8
+primitive_type_of (array.Int16 a) = primitive.Int16
+primitive_type_of (array.Int32 a) = primitive.Int32
+primitive_type_of (array.Int64 a) = primitive.Int64
+primitive_type_of (array.Int128 a) = primitive.Int128
+primitive_type_of (array.UInt8 a) = primitive.UInt8
+primitive_type_of (array.UInt16 a) = primitive.UInt16
+primitive_type_of (array.UInt32 a) = primitive.UInt32
+primitive_type_of (array.UInt64 a) = primitive.UInt64
+primitive_type_of (array.DaysMs a) = primitive.DaysMs
+primitive_type_of (array.MonthDayNano a) = primitive.MonthDayNano
 
-abbrev pub numbers_of : PrimitiveNode → Layout
-numbers_of (array.Int8 a) = primitive_layout (signed w8) a
-numbers_of (array.Int16 a) = primitive_layout (signed w16) a
-numbers_of (array.Int32 a) = primitive_layout (signed w32) a
-numbers_of (array.Int64 a) = primitive_layout (signed w64) a
-numbers_of (array.Int128 a) = primitive_layout (signed w128) a
-numbers_of (array.UInt8 a) = primitive_layout (unsigned 8) a
-numbers_of (array.UInt16 a) = primitive_layout (unsigned 16) a
-numbers_of (array.UInt32 a) = primitive_layout (unsigned 32) a
-numbers_of (array.UInt64 a) = primitive_layout (unsigned 64) a
-numbers_of (array.DaysMs a) = primitive_layout days_ms a
-numbers_of (array.MonthDayNano a) = primitive_layout month_day_nano a
+abbrev pub primitive_node_layout : PrimitiveNode → Layout
+primitive_node_layout (array.Int8 a) = primitive_layout (signed w8) a
+primitive_node_layout (array.Int16 a) = primitive_layout (signed w16) a
+primitive_node_layout (array.Int32 a) = primitive_layout (signed w32) a
+primitive_node_layout (array.Int64 a) = primitive_layout (signed w64) a
+primitive_node_layout (array.Int128 a) = primitive_layout (signed w128) a
+primitive_node_layout (array.UInt8 a) = primitive_layout (unsigned 8) a
+primitive_node_layout (array.UInt16 a) = primitive_layout (unsigned 16) a
+primitive_node_layout (array.UInt32 a) = primitive_layout (unsigned 32) a
+primitive_node_layout (array.UInt64 a) = primitive_layout (unsigned 64) a
+primitive_node_layout (array.DaysMs a) = primitive_layout days_ms a
+primitive_node_layout (array.MonthDayNano a) = primitive_layout month_day_nano a
 
 abbrev pub layout_of : Node → Layout
 layout_of (node.Boolean a) = boolean_layout a
-layout_of (node.Primitive a) = numbers_of a
+layout_of (node.Primitive a) = primitive_node_layout a
 layout_of (node.Binary a) = binary_layout (λ o. o) a
 layout_of (node.LargeBinary a) = binary_layout (λ o. o) a
 layout_of (node.Utf8 a) = binary_layout (λ o. o) a
@@ -107,7 +107,7 @@ layout_of (node.Utf8View a) = view_layout a
 -- The form that the type of a node has.
 abbrev pub node_form : Node → Form
 node_form (node.Boolean a) = booleans_of
-node_form (node.Primitive a) = primitives_of (number_of a)
+node_form (node.Primitive a) = primitives_of (primitive_type_of a)
 node_form (node.Binary a) = binaries_of false false
 node_form (node.LargeBinary a) = binaries_of true false
 node_form (node.Utf8 a) = binaries_of false true

@@ -4,8 +4,8 @@ use Rattle.arrow_buffers.specs.Bits.{Bits}
 use Rattle.arrow_types.specs.declared.error.PolarsError.{PolarsError}
 use Rattle.arrow_types.specs.declared.error.PolarsError.TheVariants.{InvalidOperation, OutOfMemory}
 use Rattle.arrow_types.specs.declared.error.Reason.TheVariants.{UnionValidity, KeyRange}
-use Rattle.arrow_meaning.specs.Layouts.{Layout, sparse_unions, dense_unions}
-use Rattle.arrow_meaning.specs.Masks.{KeysInRange}
+use Rattle.arrow_layout.specs.Layouts.{Layout, sparse_unions, dense_unions}
+use Rattle.arrow_layout.specs.Masks.{KeysInRange}
 
 abbrev pub IsUnion : Layout → Type 0
 IsUnion (sparse_unions t o ts ls) = ⊤

@@ -1,14 +1,15 @@
 //! Arrays of any layout.
-ghost use Rattle.std.specs.Prelude.{◌≡◌, ◌+◌, ◌-◌, ◌<◌, ◌≤◌, true, false, not, IfOk, IfErr, OnOk, OnErr, MatchOption, Decides, Option};
+ghost use Rattle.std.specs.Prelude.{◌≡◌, ◌↔◌, ◌+◌, ◌-◌, ◌<◌, ◌≤◌, true, false, not, IfOk, IfErr, OnOk, OnErr, MatchOption, Option, IsTrue};
 ghost use Rattle.arrow_types.specs.Seen.{seen};
-ghost use Rattle.arrow_flat.specs.Primitives.{MaskFits, seen_mask};
-ghost use Rattle.arrow_meaning.specs.Cut.{cut};
-ghost use Rattle.arrow_meaning.specs.Denote.{validity_of};
-ghost use Rattle.arrow_meaning.specs.Layouts.{length_of, type_of};
-ghost use Rattle.arrow_meaning.specs.Masks.{with_mask, KeysInRange, null_count_of, valid_in};
+ghost use Rattle.std.specs.Option.{option_copied};
+ghost use Rattle.arrow_flat.specs.Primitives.{MaskHasLength};
+ghost use Rattle.arrow_layout.specs.Cut.{cut};
+ghost use Rattle.arrow_layout.specs.Denote.{validity_of};
+ghost use Rattle.arrow_layout.specs.Layouts.{length_of, type_of};
+ghost use Rattle.arrow_layout.specs.Masks.{with_mask, KeysInRange, null_count_of, valid_in};
 ghost use Rattle.arrow_meaning.specs.Refusals.{IsUnion, MaskRefused};
-ghost use Rattle.arrow_meaning.specs.WellFormed.{WellFormed};
-ghost use Rattle.arrow_meaning.specs.Nodes.{IsBooleans, Holds, HoldsBytes, HoldsViews, IsFixedSizeBinaries, IsSoundNode, layout_of, boolean_layout, primitive_layout, binary_layout, fixed_size_binary_layout, view_layout};
+ghost use Rattle.arrow_layout.specs.WellFormed.{WellFormed};
+ghost use Rattle.arrow_meaning.specs.Nodes.{IsBooleans, HoldsPrimitive, HoldsBytes, HoldsViews, IsFixedSizeBinaries, IsSoundNode, layout_of, boolean_layout, primitive_layout, binary_layout, fixed_size_binary_layout, view_layout};
 
 use crate::{Node, NodeNative, NodeOffset, NodeView};
 use arrow_buffers::Bitmap;
@@ -33,9 +34,9 @@ impl Drop for ArrayRef {
 }
 
 impl Model for ArrayRef {
-    ghost use Rattle.arrow_meaning.specs.Layouts.{Layout};
-    ghost use Rattle.arrow_meaning.specs.LayoutCode.{layout_code};
-    ghost use Rattle.arrow_meaning.specs.WellFormed.{WellFormed};
+    ghost use Rattle.arrow_layout.specs.Layouts.{Layout};
+    ghost use Rattle.arrow_layout.specs.LayoutCode.{layout_code};
+    ghost use Rattle.arrow_layout.specs.WellFormed.{WellFormed};
 
     ghost Value = { Layout };
 
@@ -80,7 +81,7 @@ impl ArrayRef {
 
     /// The array of values of the native type, None exactly where the layout is another.
     pub fn as_primitive<T: NodeNative>(&self) -> Option<&PrimitiveArray<T>>
-        ensures { MatchOption result (Holds T.PRIMITIVE self.now → ⊥) (λ a. primitive_layout T.parts a.now ≡ self.now) }
+        ensures { MatchOption result (HoldsPrimitive T.PRIMITIVE self.now → ⊥) (λ a. primitive_layout T.parts a.now ≡ self.now) }
     {
         match self.node() {
             Node::Primitive(array) => T::of_node(array),
@@ -128,7 +129,7 @@ impl ArrayRef {
 
     /// Whether there is no slot.
     pub fn is_empty(&self) -> bool
-        ensures { Decides result (length_of self.now ≡ 0) }
+        ensures { IsTrue result ↔ (length_of self.now ≡ 0) }
     {
         self.len() == 0
     }
@@ -142,7 +143,7 @@ impl ArrayRef {
 
     /// The mask, where there is one: a set bit for each slot that isn't null.
     pub fn validity(&self) -> Option<&Bitmap>
-        ensures { seen_mask result ≡ validity_of self.now }
+        ensures { option_copied result ≡ validity_of self.now }
     {
         self.node().validity()
     }
@@ -160,7 +161,7 @@ impl ArrayRef {
 
     /// Whether there are such nulls.
     pub fn has_nulls(&self) -> bool
-        ensures { Decides result (0 < null_count_of self.now) }
+        ensures { IsTrue result ↔ (0 < null_count_of self.now) }
     {
         self.null_count() > 0
     }
@@ -217,7 +218,7 @@ impl ArrayRef {
     /// The same values under another mask, or none. Refused as InvalidOperation: UnionValidity exactly for a union, KeyRange exactly
     /// where a slot that is valid under the new mask has a key that names no value.
     pub fn with_validity(&self, alloc: Global, validity: Option<Bitmap>) -> PolarsResult<ArrayRef>
-        requires { MaskFits validity (length_of self.now) }
+        requires { MaskHasLength validity (length_of self.now) }
         ensures ok { IfOk result (λ a. (a ≡ with_mask validity self.now) × (IsUnion self.now → ⊥) × KeysInRange validity self.now) }
         ensures refused { IfErr result (λ e. MaskRefused e validity self.now) }
     {

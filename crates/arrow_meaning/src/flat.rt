@@ -1,13 +1,14 @@
 //! Flat arrays as layouts: what each kind keeps, its part, and the same values under another mask.
 ghost use Rattle.std.specs.Prelude.{◌≡◌, ◌+◌, ◌≤◌, length as count, true, false, IfOk, Option, Some};
 ghost use Rattle.arrow_types.specs.Seen.{seen};
-ghost use Rattle.arrow_flat.specs.Primitives.{MaskFits, HasRange, seen_mask};
-ghost use Rattle.arrow_meaning.specs.Cut.{cut, cut_mask};
-ghost use Rattle.arrow_meaning.specs.Forms.{form_of, booleans_of, primitives_of, binaries_of, fixed_size_binaries_of, views_of};
-ghost use Rattle.arrow_meaning.specs.Layouts.{length_of};
-ghost use Rattle.arrow_meaning.specs.Masks.{with_mask};
+ghost use Rattle.std.specs.Option.{option_copied};
+ghost use Rattle.arrow_flat.specs.Primitives.{MaskHasLength, HasRange};
+ghost use Rattle.arrow_layout.specs.Cut.{cut, cut_mask};
+ghost use Rattle.arrow_layout.specs.Forms.{form_of, booleans_of, primitives_of, binaries_of, fixed_size_binaries_of, views_of};
+ghost use Rattle.arrow_layout.specs.Layouts.{length_of};
+ghost use Rattle.arrow_layout.specs.Masks.{with_mask};
 ghost use Rattle.arrow_meaning.specs.Nodes.{boolean_layout, primitive_layout, binary_layout, fixed_size_binary_layout, view_layout};
-ghost use Rattle.arrow_meaning.specs.WellFormed.{WellFormed};
+ghost use Rattle.arrow_layout.specs.WellFormed.{WellFormed};
 
 use crate::SizedOffset;
 use arrow_buffers::Bitmap;
@@ -37,8 +38,8 @@ fn cut_validity(
     offset: usize,
     length: usize,
 ) -> Mem<Option<Bitmap>>
-    requires { HasRange (seen_mask validity) offset length }
-    ensures { IfOk result (λ m. m ≡ cut_mask offset length (seen_mask validity.entry)) }
+    requires { HasRange (option_copied validity) offset length }
+    ensures { IfOk result (λ m. m ≡ cut_mask offset length (option_copied validity.entry)) }
 {
     match validity {
         None => Ok(None),
@@ -79,7 +80,7 @@ pub(crate) fn mask_boolean(
     array: &BooleanArray,
     validity: Option<Bitmap>,
 ) -> Mem<BooleanArray>
-    requires { MaskFits validity (length_of (boolean_layout array.now)) }
+    requires { MaskHasLength validity (length_of (boolean_layout array.now)) }
     ensures { IfOk result (λ a. boolean_layout a ≡ with_mask validity (boolean_layout array.now)) }
 {
     let mut masked = array.try_clone(alloc)?;
@@ -120,7 +121,7 @@ pub(crate) fn mask_primitive<T: NativeType>(
     array: &PrimitiveArray<T>,
     validity: Option<Bitmap>,
 ) -> Mem<PrimitiveArray<T>>
-    requires { MaskFits validity (length_of (primitive_layout T.parts array.now)) }
+    requires { MaskHasLength validity (length_of (primitive_layout T.parts array.now)) }
     ensures { IfOk result (λ a. primitive_layout T.parts a ≡ with_mask validity (primitive_layout T.parts array.now)) }
 {
     let mut masked = array.try_clone(alloc)?;
@@ -163,7 +164,7 @@ pub(crate) fn mask_binary<O: SizedOffset>(
     array: &BinaryArray<O>,
     validity: Option<Bitmap>,
 ) -> Mem<BinaryArray<O>>
-    requires { MaskFits validity (length_of (binary_layout O.number array.now)) }
+    requires { MaskHasLength validity (length_of (binary_layout O.number array.now)) }
     ensures { IfOk result (λ a. binary_layout O.number a ≡ with_mask validity (binary_layout O.number array.now)) }
 {
     let mut masked = array.try_clone(alloc)?;
@@ -206,7 +207,7 @@ pub(crate) fn mask_utf8<O: SizedOffset>(
     array: &Utf8Array<O>,
     validity: Option<Bitmap>,
 ) -> Mem<Utf8Array<O>>
-    requires { MaskFits validity (length_of (binary_layout O.number array.now)) }
+    requires { MaskHasLength validity (length_of (binary_layout O.number array.now)) }
     ensures { IfOk result (λ a. binary_layout O.number a ≡ with_mask validity (binary_layout O.number array.now)) }
 {
     let mut masked = array.try_clone(alloc)?;
@@ -248,7 +249,7 @@ pub(crate) fn mask_fixed_size_binary(
     array: &FixedSizeBinaryArray,
     validity: Option<Bitmap>,
 ) -> Mem<FixedSizeBinaryArray>
-    requires { MaskFits validity (length_of (fixed_size_binary_layout array.now)) }
+    requires { MaskHasLength validity (length_of (fixed_size_binary_layout array.now)) }
     ensures { IfOk result (λ a. fixed_size_binary_layout a ≡ with_mask validity (fixed_size_binary_layout array.now)) }
 {
     let mut masked = array.try_clone(alloc)?;
@@ -290,7 +291,7 @@ pub(crate) fn mask_view<T: ViewType>(
     array: &BinaryViewArrayGeneric<T>,
     validity: Option<Bitmap>,
 ) -> Mem<BinaryViewArrayGeneric<T>>
-    requires { MaskFits validity (length_of (view_layout array.now)) }
+    requires { MaskHasLength validity (length_of (view_layout array.now)) }
     ensures { IfOk result (λ a. view_layout a ≡ with_mask validity (view_layout array.now)) }
 {
     let mut masked = array.try_clone(alloc)?;

@@ -1,9 +1,8 @@
-//! Arrays of any layout, and what they mean: a layout denotes a list of slots.
+//! Arrays of any layout: `Node`, and `ArrayRef`, a well-formed layout always.
 #![tactic(auto)]
 
 mod array;
 mod flat;
-pub mod laws;
 mod node;
 mod offset;
 mod primitive;

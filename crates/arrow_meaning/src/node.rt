@@ -1,14 +1,15 @@
 //! One array with its parts, a variant for each layout.
 ghost use Rattle.std.specs.Prelude.{◌≡◌, ◌+◌, ◌≤◌, IfOk, Option};
 ghost use Rattle.arrow_types.specs.Seen.{seen};
-ghost use Rattle.arrow_flat.specs.Primitives.{MaskFits, seen_mask};
-ghost use Rattle.arrow_meaning.specs.Cut.{cut};
-ghost use Rattle.arrow_meaning.specs.Denote.{validity_of};
-ghost use Rattle.arrow_meaning.specs.Forms.{form_of};
-ghost use Rattle.arrow_meaning.specs.Layouts.{length_of, type_of};
-ghost use Rattle.arrow_meaning.specs.Masks.{with_mask};
+ghost use Rattle.std.specs.Option.{option_copied};
+ghost use Rattle.arrow_flat.specs.Primitives.{MaskHasLength};
+ghost use Rattle.arrow_layout.specs.Cut.{cut};
+ghost use Rattle.arrow_layout.specs.Denote.{validity_of};
+ghost use Rattle.arrow_layout.specs.Forms.{form_of};
+ghost use Rattle.arrow_layout.specs.Layouts.{length_of, type_of};
+ghost use Rattle.arrow_layout.specs.Masks.{with_mask};
 ghost use Rattle.arrow_meaning.specs.Nodes.{layout_of, node_form};
-ghost use Rattle.arrow_meaning.specs.WellFormed.{WellFormed};
+ghost use Rattle.arrow_layout.specs.WellFormed.{WellFormed};
 
 use crate::PrimitiveNode;
 use crate::flat::{
@@ -83,7 +84,7 @@ impl Node {
 
     /// The mask, where there is one.
     pub(crate) fn validity(&self) -> Option<&Bitmap>
-        ensures { seen_mask result ≡ validity_of (layout_of self.now) }
+        ensures { option_copied result ≡ validity_of (layout_of self.now) }
     {
         match self {
             Node::Boolean(array) => array.validity(),
@@ -140,7 +141,7 @@ impl Node {
 
     /// The same values under another mask, or none.
     pub(crate) fn masked(&self, alloc: Global, validity: Option<Bitmap>) -> Mem<Node>
-        requires { MaskFits validity (length_of (layout_of self.now)) }
+        requires { MaskHasLength validity (length_of (layout_of self.now)) }
         ensures { IfOk result (λ n. layout_of n ≡ with_mask validity (layout_of self.now)) }
     {
         match self {

@@ -1,13 +1,14 @@
 //! Primitive arrays of any native type, as one kind of node.
 ghost use Rattle.std.specs.Prelude.{◌≡◌, ◌+◌, ◌≤◌, map, length as count, MatchOption, IfOk, Option};
 ghost use Rattle.arrow_types.specs.Seen.{seen};
-ghost use Rattle.arrow_flat.specs.Primitives.{seen_mask, MaskFits};
-ghost use Rattle.arrow_meaning.specs.Cut.{cut};
-ghost use Rattle.arrow_meaning.specs.Denote.{validity_of};
-ghost use Rattle.arrow_meaning.specs.Layouts.{length_of, type_of};
-ghost use Rattle.arrow_meaning.specs.Masks.{with_mask};
-ghost use Rattle.arrow_meaning.specs.Nodes.{Holds, number_of, numbers_of, primitive_layout};
-ghost use Rattle.arrow_meaning.specs.WellFormed.{WellFormed};
+ghost use Rattle.std.specs.Option.{option_copied};
+ghost use Rattle.arrow_flat.specs.Primitives.{MaskHasLength};
+ghost use Rattle.arrow_layout.specs.Cut.{cut};
+ghost use Rattle.arrow_layout.specs.Denote.{validity_of};
+ghost use Rattle.arrow_layout.specs.Layouts.{length_of, type_of};
+ghost use Rattle.arrow_layout.specs.Masks.{with_mask};
+ghost use Rattle.arrow_meaning.specs.Nodes.{HoldsPrimitive, primitive_type_of, primitive_node_layout, primitive_layout};
+ghost use Rattle.arrow_layout.specs.WellFormed.{WellFormed};
 
 use crate::flat::{cut_primitive, know_primitive, mask_primitive};
 use arrow_buffers::Bitmap;
@@ -64,37 +65,37 @@ macro_rules! of_array {
 impl PrimitiveNode {
     /// The count of slots.
     pub(crate) fn len(&self) -> usize
-        ensures { result ≡ length_of (numbers_of self.now) }
+        ensures { result ≡ length_of (primitive_node_layout self.now) }
     {
         of_array!(self, array => array.len())
     }
 
     /// The whole type.
     pub(crate) fn dtype(&self) -> &ArrowDataType
-        ensures { seen result.now ≡ type_of (numbers_of self.now) }
+        ensures { seen result.now ≡ type_of (primitive_node_layout self.now) }
     {
         of_array!(self, array => array.dtype())
     }
 
     /// The mask, where there is one.
     pub(crate) fn validity(&self) -> Option<&Bitmap>
-        ensures { seen_mask result ≡ validity_of (numbers_of self.now) }
+        ensures { option_copied result ≡ validity_of (primitive_node_layout self.now) }
     {
         of_array!(self, array => array.validity())
     }
 
     /// Tells a caller what an array keeps. It does nothing.
     pub(crate) fn know(&self)
-        ensures sound { WellFormed (numbers_of self.now) }
-        ensures form { Holds (number_of self.now) (numbers_of self.now) }
+        ensures sound { WellFormed (primitive_node_layout self.now) }
+        ensures form { HoldsPrimitive (primitive_type_of self.now) (primitive_node_layout self.now) }
     {
         of_array!(self, array => know_primitive(array))
     }
 
     /// The `length` slots from `offset` on; a mask without nulls goes.
     pub(crate) fn cut(&self, alloc: Global, offset: usize, length: usize) -> Mem<PrimitiveNode>
-        requires { offset + length ≤ length_of (numbers_of self.now) }
-        ensures { IfOk result (λ n. numbers_of n ≡ cut (numbers_of self.now) offset length) }
+        requires { offset + length ≤ length_of (primitive_node_layout self.now) }
+        ensures { IfOk result (λ n. primitive_node_layout n ≡ cut (primitive_node_layout self.now) offset length) }
     {
         match self {
             PrimitiveNode::Int8(array) => cut_primitive(alloc, array, offset, length).map(
@@ -135,8 +136,8 @@ impl PrimitiveNode {
 
     /// The same values under another mask, or none.
     pub(crate) fn masked(&self, alloc: Global, validity: Option<Bitmap>) -> Mem<PrimitiveNode>
-        requires { MaskFits validity (length_of (numbers_of self.now)) }
-        ensures { IfOk result (λ n. numbers_of n ≡ with_mask validity (numbers_of self.now)) }
+        requires { MaskHasLength validity (length_of (primitive_node_layout self.now)) }
+        ensures { IfOk result (λ n. primitive_node_layout n ≡ with_mask validity (primitive_node_layout self.now)) }
     {
         match self {
             PrimitiveNode::Int8(array) => mask_primitive(alloc, array, validity).map(
@@ -180,8 +181,8 @@ impl PrimitiveNode {
 pub trait NodeNative: NativeType {
     /// The array, None exactly where the node holds values of another type.
     fn of_node(node: &PrimitiveNode) -> Option<&PrimitiveArray<Self>>
-        ensures { MatchOption result (Holds Self.PRIMITIVE (numbers_of node.now) → ⊥)
-            (λ a. primitive_layout Self.parts a.now ≡ numbers_of node.now) };
+        ensures { MatchOption result (HoldsPrimitive Self.PRIMITIVE (primitive_node_layout node.now) → ⊥)
+            (λ a. primitive_layout Self.parts a.now ≡ primitive_node_layout node.now) };
 }
 
 impl NodeNative for i8 {

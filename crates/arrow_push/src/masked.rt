@@ -57,7 +57,8 @@ impl<V: ValuesBuilder> MaskedBuilder<V> {
     ghost use Rattle.arrow_types.specs.Seen.{seen};
     ghost use Rattle.arrow_flat.specs.Slots.{null};
     ghost use Rattle.arrow_flat.specs.Built.{Takes, Keeps, Pushes};
-    ghost use Rattle.arrow_push.specs.Masks.{built_under, seen_bits};
+    ghost use Rattle.std.specs.Option.{option_copied};
+    ghost use Rattle.arrow_push.specs.Masks.{built_under};
 
     /// No slots yet, over a builder without values.
     pub fn over(values: V) -> MaskedBuilder<V>
@@ -87,7 +88,7 @@ impl<V: ValuesBuilder> MaskedBuilder<V> {
 
     /// The mask, where there is one: a set bit for each slot that isn't null.
     pub fn validity(&self) -> Option<&MutableBitmap>
-        ensures { seen_bits result ≡ self.now.validity }
+        ensures { option_copied result ≡ self.now.validity }
     {
         self.validity.as_ref()
     }

@@ -4,8 +4,8 @@ ghost use Rattle.arrow_types.specs.TypeData.{TypeData};
 ghost use Rattle.arrow_types.specs.Seen.{seen};
 ghost use Rattle.arrow_flat.specs.Slots.{Slot, is_valid};
 ghost use Rattle.arrow_flat.specs.Built.{Takes, Keeps, ExtendsFrom};
-ghost use Rattle.arrow_flat.specs.Primitives.{MaskFits};
-ghost use Rattle.arrow_push.specs.Masks.{with_nulls, bits_in, Finished};
+ghost use Rattle.arrow_flat.specs.Primitives.{MaskHasLength};
+ghost use Rattle.arrow_push.specs.Masks.{with_nulls, bits_of_mask, Finished};
 
 use crate::TryPush;
 use arrow_buffers::Bitmap;
@@ -74,8 +74,8 @@ pub trait ValuesBuilder: ValuesLaws {
 
     /// The array of the values under a mask. The builder is left empty.
     fn finish_under(&mut self, validity: Option<Bitmap>) -> Mem<Self::Array>
-        requires { MaskFits validity (length (Self.seen self.old).slots) }
-        ensures value { IfOk result (λ a. finished a ≡ record { dtype = (Self.seen self.old).dtype; slots = with_nulls (bits_in validity) (Self.seen self.old).slots }) }
+        requires { MaskHasLength validity (length (Self.seen self.old).slots) }
+        ensures value { IfOk result (λ a. finished a ≡ record { dtype = (Self.seen self.old).dtype; slots = with_nulls (bits_of_mask validity) (Self.seen self.old).slots }) }
         ensures empty { (Self.seen self.new).slots ≡ [] }
         ensures kind { (Self.seen self.new).dtype ≡ (Self.seen self.old).dtype };
 }

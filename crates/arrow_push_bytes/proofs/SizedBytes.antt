@@ -12,7 +12,7 @@ use Rattle.arrow_flat.specs.Pieces.{chunks}
 use Rattle.arrow_flat.specs.Slots.{Slot, bytes}
 use Rattle.arrow_flat.specs.Built.{Takes, Keeps}
 use Rattle.arrow_flat.proofs.Pieces.{chunk_count, whole_count, whole_multiple}
-use Rattle.arrow_bytes.specs.FixedSizeBinaries.{size_of, size_or_zero}
+use Rattle.arrow_bytes.specs.FixedSizeBinaries.{declared_size, size_or_zero}
 use Rattle.arrow_push_bytes.specs.SizedBytes.{sized_strings, width_refusal, built_sized, zeros_of}
 
 -- ---- whole multiples
@@ -169,16 +169,16 @@ zeros_multiple k total n bs more true p e l t m =
     grown_multiple k bs (replicate k 0) more true p e (one_multiple k (replicate k 0) p (length-replicate k 0)) (m ∙ zeros_behind k total n bs l t)
 zeros_multiple k total n bs more false p e l t m = ap (λ (zs : List ℕ). length zs % k) m ∙ e
 
-pub zeros_are : (t : TypeData) (k : ℕ) → size_of t ≡ Some k → bytes (replicate k 0) ≡ zeros_of t
+pub zeros_are : (t : TypeData) (k : ℕ) → declared_size t ≡ Some k → bytes (replicate k 0) ≡ zeros_of t
 zeros_are t k e = ap (λ o. bytes (replicate (unwrap_or o 0) 0)) (sym e)
 
-pub known_size : (s t : TypeData) (k : ℕ) → s ≡ t → size_of t ≡ Some k → size_or_zero s ≡ k
+pub known_size : (s t : TypeData) (k : ℕ) → s ≡ t → declared_size t ≡ Some k → size_or_zero s ≡ k
 known_size s t k e h = ap size_or_zero e ∙ ap (λ o. unwrap_or o 0) h
 
 -- two types that are the same declare the same size
-pub same_size : (s t : TypeData) (j k : ℕ) → s ≡ t → size_of s ≡ Some j → size_of t ≡ Some k → j ≡ k
+pub same_size : (s t : TypeData) (j k : ℕ) → s ≡ t → declared_size s ≡ Some j → declared_size t ≡ Some k → j ≡ k
 same_size s t j k e h l =
-    let both : Some j ≡ Some k = sym h ∙ ap size_of e ∙ l in
+    let both : Some j ≡ Some k = sym h ∙ ap declared_size e ∙ l in
     cc
 
 pub slots_count : (k : ℕ) (bs : List ℕ) → length (map bytes (sized_strings k bs)) ≡ length bs / k

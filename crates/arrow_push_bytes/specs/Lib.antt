@@ -1,4 +1,6 @@
 pub mod BuiltBytes
+pub mod Parts
 pub mod SizedBytes
 pub mod Strings
 pub mod TextParts
+pub mod ViewsBuilt

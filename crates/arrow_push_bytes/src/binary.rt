@@ -5,7 +5,7 @@ ghost use Rattle.std.proofs.Props.{props};
 ghost use Rattle.arrow_types.specs.Seen.{seen as type_of};
 ghost use Rattle.arrow_types.specs.Types.{physical_of};
 ghost use Rattle.arrow_types.specs.contracts.datatype.PhysicalType as physical_type;
-ghost use Rattle.arrow_bytes.specs.Binaries.{binary_layout};
+ghost use Rattle.arrow_bytes.specs.Binaries.{physical_binary};
 ghost use Rattle.arrow_push_bytes.specs.BuiltBytes.{binary_type as plain_binary};
 
 use crate::ByteStrings;
@@ -23,7 +23,7 @@ use std::alloc::{AllocError, Global};
 pub struct MutableBinaryValuesArray<O: Offset> {
     dtype: ArrowDataType,
     strings: ByteStrings<O>,
-    ghost stored: { physical_of (type_of dtype) ≡ Some (binary_layout O.IS_LARGE) } by { Prim.hlevel (props, codes, physical_type.the_row.coded) },
+    ghost stored: { physical_of (type_of dtype) ≡ Some (physical_binary O.IS_LARGE) } by { Prim.hlevel (props, codes, physical_type.the_row.coded) },
 }
 
 /// By hand, so that each place where a value may end has one call to prove, and not the drop of every field.
@@ -212,7 +212,7 @@ impl<O: Offset> TryExtendFromSelf for MutableBinaryValuesArray<O> {
 #[tactic(auto, using(arrow_flat::proofs::TypeViews::seen_types))]
 fn binary_type(is_large: bool) -> ArrowDataType
     ensures plain { type_of result ≡ plain_binary is_large }
-    ensures stored { physical_of (type_of result) ≡ Some (binary_layout is_large) }
+    ensures stored { physical_of (type_of result) ≡ Some (physical_binary is_large) }
 {
     if is_large {
         ArrowDataType::LargeBinary

@@ -4,7 +4,7 @@ ghost use Rattle.std.specs.Coded.{codes};
 ghost use Rattle.std.proofs.Props.{props};
 ghost use Rattle.arrow_types.specs.Seen.{seen as type_of};
 ghost use Rattle.arrow_types.specs.TypeData as T;
-ghost use Rattle.arrow_bytes.specs.FixedSizeBinaries.{size_of};
+ghost use Rattle.arrow_bytes.specs.FixedSizeBinaries.{declared_size};
 
 use arrow_buffers::{Bitmap, Buffer};
 use arrow_bytes::FixedSizeBinaryArray;
@@ -21,7 +21,7 @@ pub struct FixedSizeBinaryValues {
     dtype: ArrowDataType,
     size: usize,
     values: Vec<u8>,
-    ghost sized: { size_of (type_of dtype) ≡ Some size } by { Prim.hlevel (props, codes) },
+    ghost sized: { declared_size (type_of dtype) ≡ Some size } by { Prim.hlevel (props, codes) },
     ghost positive: { 0 < size },
     ghost multiple: { count values.items % size ≡ 0 },
 }

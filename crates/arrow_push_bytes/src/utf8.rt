@@ -2,7 +2,7 @@
 ghost use Rattle.std.specs.Prelude.{◌≡◌, map, Some};
 ghost use Rattle.arrow_types.specs.Seen.{seen as type_of};
 ghost use Rattle.arrow_types.specs.Types.{physical_of};
-ghost use Rattle.arrow_bytes.specs.Binaries.{text_layout};
+ghost use Rattle.arrow_bytes.specs.Binaries.{physical_utf8};
 ghost use Rattle.arrow_push_bytes.specs.BuiltBytes.{text_type as plain_text};
 
 use crate::ByteStrings;
@@ -36,7 +36,7 @@ impl<O: Offset> Drop for MutableUtf8ValuesArray<O> {
 impl<O: Offset> Model for MutableUtf8ValuesArray<O> {
     ghost use Rattle.std.specs.Coded.{codes};
     ghost use Rattle.arrow_types.specs.contracts.datatype.ArrowDataType as data_type;
-    ghost use Rattle.arrow_bytes.specs.Binaries.{text_layout};
+    ghost use Rattle.arrow_bytes.specs.Binaries.{physical_utf8};
     ghost use Rattle.arrow_push_bytes.specs.TextParts.{TextParts, AreTextParts};
 
     ghost Value = { TextParts };
@@ -45,7 +45,7 @@ impl<O: Offset> Model for MutableUtf8ValuesArray<O> {
 
     ghost view = { λ b. record { dtype = b.dtype; strings = b.strings } };
 
-    ghost invariant = { λ b. AreTextParts (text_layout O.IS_LARGE) b.dtype b.strings };
+    ghost invariant = { λ b. AreTextParts (physical_utf8 O.IS_LARGE) b.dtype b.strings };
 }
 
 /// A builder of texts and nulls.
@@ -224,7 +224,7 @@ impl<O: Offset> TryExtendFromSelf for MutableUtf8ValuesArray<O> {
 #[tactic(auto, using(arrow_flat::proofs::TypeViews::seen_types))]
 fn text_type(is_large: bool) -> ArrowDataType
     ensures plain { type_of result ≡ plain_text is_large }
-    ensures stored { physical_of (type_of result) ≡ Some (text_layout is_large) }
+    ensures stored { physical_of (type_of result) ≡ Some (physical_utf8 is_large) }
 {
     if is_large {
         ArrowDataType::LargeUtf8

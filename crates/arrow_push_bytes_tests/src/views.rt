@@ -1,7 +1,7 @@
 //! What no clause says of builders of views: that calls succeed with ample memory, and that the clauses mean what builders of views
 //! do.
 use arrow_push::{TryExtend, TryPush};
-use arrow_push_views::{ExtendFromLengths, MutableBinaryViewArray};
+use arrow_push_bytes::{ExtendFromLengths, MutableBinaryViewArray};
 use arrow_types::{ArrowDataType, PolarsResult};
 use arrow_views::{Utf8ViewArray, View, ViewBytes, ViewStr, ViewType};
 use push_fixtures::Call::{Push, PushNull, Reserve, ShrinkToFit};

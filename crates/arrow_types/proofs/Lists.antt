@@ -3,12 +3,12 @@ use Rattle.std.proofs.Common.{◌≡◌, ℕ, List, [], ◌∷◌, ◌++◌, len
 use Rattle.std.specs.Prelude.{option_map}
 use Rattle.arrow_types.specs.TypeData.{FieldList, no_fields, and_field, chained}
 use Rattle.std.specs.Hash.{le_bytes}
-use Rattle.arrow_types.specs.TypeWrites.{count, all_writes, fields_writes}
+use Rattle.arrow_types.specs.TypeWrites.{field_count, all_writes, fields_writes}
 use Rattle.arrow_types.specs.Seen.{seen_field, seen_fields}
 use Rattle.arrow_types.specs.Types.{more_fields, underlying_field, underlying_fields}
 use Rattle.arrow_types.specs.declared.datatype.Field.{Field}
 
-pub count_seen : (fs : List Field) → count (seen_fields fs) ≡ length fs
+pub count_seen : (fs : List Field) → field_count (seen_fields fs) ≡ length fs
 count_seen [] = refl
 count_seen (f ∷ fs) = ap (λ n. suc n) (count_seen fs)
 

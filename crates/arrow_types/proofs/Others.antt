@@ -1,6 +1,6 @@
 -- What the definitions say where the match has named each other variant.
 use Rattle.std.proofs.Common.{◌≡◌, ℕ, Bool, false, Option, Some, None, refl, sym}
-use Rattle.arrow_types.specs.TypeData.{TypeData, type_of}
+use Rattle.arrow_types.specs.TypeData.{TypeData, field_type}
 use Rattle.arrow_types.specs.TypeData as T
 use Rattle.arrow_types.specs.Seen.{seen, back, back_field, back_fields}
 use Rattle.arrow_types.specs.Types.{is_nested, is_view, is_numeric, contains_dictionary, child_of, logical_of, underlying}
@@ -23,8 +23,8 @@ module _ (t : ArrowDataType) (list : (f : Field) → t ≡ A.List f → ⊥) (la
   child_by (T.fixed_size_list f k) e = absurd (fixed (back_field f) k (sym e))
   child_by _ e = refl
 
-  pub child_other : None ≡ option_map type_of (child_of (seen t))
-  child_other = λ i. option_map type_of (sym (child_by (seen t) (back-seen t)) i)
+  pub child_other : None ≡ option_map field_type (child_of (seen t))
+  child_other = λ i. option_map field_type (sym (child_by (seen t) (back-seen t)) i)
 
   module _ (struct : (fs : List Field) → t ≡ A.Struct fs → ⊥) (map : (f : Field) (o : Bool) → t ≡ A.Map f o → ⊥) (union : (u : UnionType) → t ≡ A.Union u → ⊥) (dictionary : (k : IntegerType) (v : ArrowDataType) (o : Bool) → t ≡ A.Dictionary k v o → ⊥) (extension : (e : ExtensionType) → t ≡ A.Extension e → ⊥) where
     nested_by : (s : TypeData) → back s ≡ t → false ≡ is_nested s

@@ -20,6 +20,6 @@ abbrev pub repr_of : ReshapeDimension → ℕ
 repr_of Infer = 0
 repr_of (Specified d) = d + 1
 
-abbrev pub text_of : ReshapeDimension → List ℕ
-text_of Infer = codes "inferred"
-text_of (Specified d) = decimal d
+abbrev pub dimension_text : ReshapeDimension → List ℕ
+dimension_text Infer = codes "inferred"
+dimension_text (Specified d) = decimal d

@@ -124,7 +124,7 @@ entry_decide p q = (λ e. let w = both (text_eq p.0 q.0) (text_eq p.1 q.1) e in 
 pub entries_decide : (o p : Option Entries) → Decides (entries_eq o p) (o ≡ p)
 entries_decide = optional_decide (pointwise_decides entry_decide)
 
-null_same : (b : TypeData) → E.is_null b ≡ true → T.null ≡ b
+null_same : (b : TypeData) → E.is_null_type b ≡ true → T.null ≡ b
 null_same T.null e = refl
 null_same _ e = no e
 

@@ -1,6 +1,6 @@
 ghost use Rattle.std.specs.Prelude.{◌≡◌, None, IfOk, codes, option_map};
 ghost use Rattle.arrow_types.specs.Seen.{seen};
-ghost use Rattle.arrow_types.specs.TypeData.{type_of};
+ghost use Rattle.arrow_types.specs.TypeData.{field_type};
 ghost use Rattle.arrow_types.specs.TypeData as T;
 ghost use Rattle.arrow_types.specs.Types.{logical_of, child_of, is_nested, is_view, is_numeric, primitive_type};
 ghost use Rattle.arrow_types.specs.declared.datatype.ArrowDataType as A;
@@ -26,7 +26,7 @@ impl ArrowDataType {
     /// The type of a list's items: of `List`, `LargeList` and `FixedSizeList`, else None.
     #[tactic(auto, using(crate::proofs::SeenAt::seen_rules, crate::proofs::Others::child_other))]
     pub fn inner_dtype(&self) -> Option<&ArrowDataType>
-        ensures { option_map (λ t. seen t.now) result ≡ option_map type_of (child_of (seen self.now)) }
+        ensures { option_map (λ t. seen t.now) result ≡ option_map field_type (child_of (seen self.now)) }
     {
         match self {
             ArrowDataType::List(field)

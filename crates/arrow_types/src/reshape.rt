@@ -3,7 +3,7 @@ ghost use Rattle.std.specs.Option.{ForNone};
 ghost use Rattle.std.specs.Hash as fed;
 ghost use Rattle.std.specs.Cmp.Rules.{hashing};
 ghost use Rattle.std.proofs.Common.{rules};
-ghost use Rattle.arrow_types.specs.Reshape.{reshape_of, number_of, repr_of, text_of};
+ghost use Rattle.arrow_types.specs.Reshape.{reshape_of, number_of, repr_of, dimension_text};
 
 use crate::dimension::Dimension;
 use crate::error::Mem;
@@ -90,7 +90,7 @@ impl ReshapeDimension {
 
 /// `inferred`, or the number.
 impl fmt::Display for ReshapeDimension {
-    ghost output = { λ d. Some (text_of d) };
+    ghost output = { λ d. Some (dimension_text d) };
 
     fn fmt<W: fmt::Write>(&self, f: &mut fmt::Formatter<W>) -> fmt::Result {
         match self {

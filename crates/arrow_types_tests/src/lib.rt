@@ -2,6 +2,6 @@
 #![tactic(auto)]
 
 #[cfg(test)]
-mod json;
+mod spellings;
 #[cfg(test)]
 mod types;

@@ -6,7 +6,7 @@ use Rattle.std.specs.List.{AllByRecursion}
 use Rattle.std.proofs.lemmas.List.{length-map, length-append, take-map, drop-map, length-drop, drop-drop}
 use Rattle.arrow_flat.specs.Natives.{octets}
 use Rattle.arrow_flat.specs.Views.{View, inline, long, view_length, view_bytes, IsView}
-use Rattle.arrow_views.specs.ViewParts.{number_bytes, bytes_of, buffer_of, offset_of, prefix_of, IsPlaced}
+use Rattle.arrow_views.specs.ViewParts.{le_bytes, bytes_of, buffer_of, offset_of, prefix_of, IsPlaced}
 
 -- ---- lists of bytes under `octets`
 pub octets_at : (bs : List (List ℕ)) (i : ℕ) → get_or (map octets bs) i [] ≡ octets (get_or bs i [])
@@ -34,7 +34,7 @@ zero_at n k bs e = ap (λ bs. get_or bs k 0) e ∙ zero_in n k
 pub sixteen : (v : View) → IsPlaced v → length (bytes_of v) ≡ 16
 sixteen (inline m bs) h = ap (λ k. suc (suc (suc (suc k)))) h.1
 sixteen (long m p b o) h =
-    let many : length (p ++ (number_bytes b ++ number_bytes o)) ≡ 12 = length-append p (number_bytes b ++ number_bytes o) ∙ ap (λ k. k + 8) h.1 in
+    let many : length (p ++ (le_bytes b ++ le_bytes o)) ≡ 12 = length-append p (le_bytes b ++ le_bytes o) ∙ ap (λ k. k + 8) h.1 in
     ap (λ k. suc (suc (suc (suc k)))) many
 
 pub all_rest : (n k : ℕ) (xs : List ℕ) → length xs ≡ k → take (k - n) (drop n xs) ≡ drop n xs
@@ -92,7 +92,7 @@ any_default (x ∷ xs) (suc i) d e l = any_default xs i d e (omega arith)
 -- ---- the prefix
 pub prefix_at : (v : View) → IsPlaced v → take 4 (drop 4 (bytes_of v)) ≡ prefix_of v
 prefix_at (inline m bs) h = refl
-prefix_at (long m p b o) h = take-append_at p (number_bytes b ++ number_bytes o) h.1
+prefix_at (long m p b o) h = take-append_at p (le_bytes b ++ le_bytes o) h.1
   where
     take-append_at : (xs ys : List ℕ) → length xs ≡ 4 → take 4 (xs ++ ys) ≡ xs
     take-append_at xs ys l = ap (λ n. take n (xs ++ ys)) (sym l) ∙ take-append_seam xs ys

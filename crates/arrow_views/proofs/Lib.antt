@@ -1,3 +1,4 @@
-pub mod Checks
 pub mod Borders
+pub mod Checks
+pub mod Packing
 pub mod Windows

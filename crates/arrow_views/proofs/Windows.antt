@@ -7,7 +7,7 @@ use Rattle.arrow_flat.specs.Pieces.{AreTexts}
 use Rattle.arrow_buffers.specs.Bits.{Bits}
 use Rattle.arrow_buffers.proofs.Windows.{window_length}
 use Rattle.arrow_types.specs.declared.datatype.ArrowDataType.{ArrowDataType}
-use Rattle.arrow_flat.specs.Primitives.{MaskFits, cut_mask}
+use Rattle.arrow_flat.specs.Primitives.{MaskHasLength, window_mask}
 use Rattle.arrow_flat.specs.Views.{View, IsView, view_bytes}
 use Rattle.arrow_flat.proofs.Masked.{slots_length, cut_fits, cut_led}
 use Rattle.arrow_views.specs.ViewArrays.{ViewArray, IsSound, AreTextsIf, values_in, values_of, slots}
@@ -37,19 +37,19 @@ texts_part false buffers o n vs h = tt
 pub values_count : (a : ViewArray) → length (values_of a) ≡ length a.views
 values_count a = length-map a.views (view_bytes a.buffers)
 
-pub values_fit : (a : ViewArray) → MaskFits a.mask (length a.views) → MaskFits a.mask (length (values_of a))
-values_fit a h = subst (MaskFits a.mask) (sym (values_count a)) h
+pub values_fit : (a : ViewArray) → MaskHasLength a.mask (length a.views) → MaskHasLength a.mask (length (values_of a))
+values_fit a h = subst (MaskHasLength a.mask) (sym (values_count a)) h
 
-pub slots_count : (a : ViewArray) → MaskFits a.mask (length a.views) → length (slots a) ≡ length a.views
+pub slots_count : (a : ViewArray) → MaskHasLength a.mask (length a.views) → length (slots a) ≡ length a.views
 slots_count a h = slots_length a.mask (values_of a) (values_fit a h) ∙ values_count a
 
 -- ---- the array of a window
 pub sound_window : (text : Bool) (t : ArrowDataType) (m m' : Option Bits) (vs vs' : List View) (buffers : List (List ℕ)) (o n : ℕ) → IsSound text t m vs buffers → o + n ≤ length vs
-    → m' ≡ cut_mask m o n → vs' ≡ take n (drop o vs) → IsSound text t m' vs' buffers
+    → m' ≡ window_mask m o n → vs' ≡ take n (drop o vs) → IsSound text t m' vs' buffers
 sound_window text t m m' vs vs' buffers o n h range is views =
-    subst (λ m. IsSound text t m vs' buffers) (sym is) (subst (λ vs. IsSound text t (cut_mask m o n) vs buffers) (sym views) record {
+    subst (λ m. IsSound text t m vs' buffers) (sym is) (subst (λ vs. IsSound text t (window_mask m o n) vs buffers) (sym views) record {
       array = record {
-        fits = subst (MaskFits (cut_mask m o n)) (window_length vs o n range) (cut_fits m (length vs) o n h.array.fits range);
+        fits = subst (MaskHasLength (window_mask m o n)) (window_length vs o n range) (cut_fits m (length vs) o n h.array.fits range);
         led = cut_led m o n;
         stored = h.array.stored;
         carried = h.array.carried;

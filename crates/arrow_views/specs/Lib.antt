@@ -1,3 +1,4 @@
-pub mod ViewParts
-pub mod ViewBytes
+pub mod Packing
 pub mod ViewArrays
+pub mod ViewBytes
+pub mod ViewParts

@@ -14,7 +14,7 @@ use Rattle.arrow_types.specs.declared.error.Reason.{Reason}
 use Rattle.arrow_types.specs.declared.error.Reason.TheVariants.{ViewRange, NotUtf8}
 use Rattle.arrow_flat.specs.Natives.{octets}
 use Rattle.arrow_flat.specs.Pieces.{AreTexts}
-use Rattle.arrow_flat.specs.Primitives.{IsArray, MaskFits, cut_mask, half_mask, masked}
+use Rattle.arrow_flat.specs.Primitives.{IsArray, MaskHasLength, window_mask, half_mask, masked_values}
 use Rattle.arrow_flat.specs.Refusals as flat
 use Rattle.arrow_flat.specs.Views.{View, IsView, view_bytes}
 
@@ -26,9 +26,9 @@ pub record ViewArray : Type 0 where
   pub mask : Option Bits
 
 -- The layout, by whether the values are texts.
-abbrev pub view_layout : Bool → PhysicalType
-view_layout true = physical.Utf8View
-view_layout false = physical.BinaryView
+abbrev pub physical_view : Bool → PhysicalType
+physical_view true = physical.Utf8View
+physical_view false = physical.BinaryView
 
 abbrev pub AreViews : List (List ℕ) → List View → Type 0
 AreViews buffers views = AllByRecursion (IsView buffers) views
@@ -43,17 +43,17 @@ AreTextsIf false values = Unit {0}
 
 -- What every such array keeps.
 pub record IsSound (text : Bool) (t : ArrowDataType) (m : Option Bits) (views : List View) (buffers : List (List ℕ)) : Type 0 where
-  pub array : IsArray (view_layout text) t m (length views)
+  pub array : IsArray (physical_view text) t m (length views)
   pub placed : AreViews buffers views
   pub texts : AreTextsIf text (values_in buffers views)
 
 -- Why parts are refused: the first test that fails, each slot tested, those under nulls too.
 abbrev pub RefusedFor : Reason → Bool → ArrowDataType → Option Bits → List View → List (List ℕ) → Type 0
 RefusedFor ViewRange text t m views buffers =
-    MaskFits m (length views) × (physical_of (seen t) ≡ Some (view_layout text)) × (AreViews buffers views → ⊥)
+    MaskHasLength m (length views) × (physical_of (seen t) ≡ Some (physical_view text)) × (AreViews buffers views → ⊥)
 RefusedFor NotUtf8 text t m views buffers =
-    MaskFits m (length views) × (physical_of (seen t) ≡ Some (view_layout text)) × AreViews buffers views × (AreTextsIf text (values_in buffers views) → ⊥)
-RefusedFor reason text t m views buffers = flat.RefusedFor reason (view_layout text) t m (length views)
+    MaskHasLength m (length views) × (physical_of (seen t) ≡ Some (physical_view text)) × AreViews buffers views × (AreTextsIf text (values_in buffers views) → ⊥)
+RefusedFor reason text t m views buffers = flat.RefusedFor reason (physical_view text) t m (length views)
 
 -- no memory is taken, so none is wanted
 abbrev pub Refused : PolarsError → Bool → ArrowDataType → Option Bits → List View → List (List ℕ) → Type 0
@@ -64,7 +64,7 @@ abbrev pub values_of : ViewArray → List (List ℕ)
 values_of a = values_in a.buffers a.views
 
 abbrev pub slots : ViewArray → List (Option (List ℕ))
-slots a = masked a.mask (values_of a)
+slots a = masked_values a.mask (values_of a)
 
 -- Bytes that are lent, as numbers in their range.
 abbrev pub lent_octets : Bor (List ℕ) → List ℕ
@@ -76,7 +76,7 @@ seen_octets (Some b) = Some (octets b.now)
 
 -- The array of n slots from `offset` on, of the same buffers.
 abbrev pub cut : ViewArray → ℕ → ℕ → ViewArray
-cut a offset n = record { dtype = a.dtype; views = take n (drop offset a.views); buffers = a.buffers; mask = cut_mask a.mask offset n }
+cut a offset n = record { dtype = a.dtype; views = take n (drop offset a.views); buffers = a.buffers; mask = window_mask a.mask offset n }
 
 -- The half of n slots from `offset` on, whose mask goes where it has no unset bit; the first n slots, and the others.
 abbrev pub half : ViewArray → ℕ → ℕ → ViewArray

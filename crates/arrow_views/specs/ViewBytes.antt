@@ -9,7 +9,8 @@ use Rattle.std.proofs.Math.Seq.{take-length}
 use Rattle.std.proofs.lemmas.Nat.{le_bytes_4}
 use Rattle.arrow_flat.specs.Natives.{octets}
 use Rattle.arrow_flat.specs.Views.{View, inline, long, view_length, inline_view}
-use Rattle.arrow_views.specs.ViewParts.{number_at, number_bytes, view_of, bytes_of, buffer_of, offset_of, AreBytes, IsPlaced}
+use Rattle.arrow_flat.specs.Natives.{AreBytes}
+use Rattle.arrow_views.specs.ViewParts.{number_at, le_bytes, view_of, bytes_of, buffer_of, offset_of, IsPlaced}
 
 -- ---- bytes
 pub byte_at : (bs : List ℕ) (i : ℕ) → AreBytes bs → get_or bs i 0 < 256
@@ -39,7 +40,7 @@ octets_same (b ∷ bs) h = ap (λ c. c ∷ octets bs) (let q : b % 256 ≡ b = o
 four_at : (at : ℕ) (bs : List ℕ) → at + 4 ≤ length bs → length (take 4 (drop at bs)) ≡ 4
 four_at at bs l = length-take-le 4 (drop at bs) (omega (arith, length-drop at bs))
 
-pub number_back : (at : ℕ) (bs : List ℕ) → at + 4 ≤ length bs → AreBytes bs → number_bytes (number_at at bs) ≡ take 4 (drop at bs)
+pub number_back : (at : ℕ) (bs : List ℕ) → at + 4 ≤ length bs → AreBytes bs → le_bytes (number_at at bs) ≡ take 4 (drop at bs)
 number_back at bs l h =
     le_bytes_4 (take 4 (drop at bs)) (number_at at bs) (four_at at bs l) (λ i. byte_at (take 4 (drop at bs)) i (bytes_take 4 (drop at bs) (bytes_drop at bs h))) refl
 
@@ -54,19 +55,19 @@ back_by : (c : Bool) (x y : View) (bs : List ℕ) → bytes_of x ≡ bs → byte
 back_by true x y bs e f = e
 back_by false x y bs e f = f
 
-inline_back : (bs : List ℕ) → length bs ≡ 16 → AreBytes bs → number_bytes (number_at 0 bs) ++ drop 4 bs ≡ bs
+inline_back : (bs : List ℕ) → length bs ≡ 16 → AreBytes bs → le_bytes (number_at 0 bs) ++ drop 4 bs ≡ bs
 inline_back bs l h = ap (λ n. n ++ drop 4 bs) (number_back 0 bs (omega arith) h) ∙ take-append-drop 4 bs
 
 long_back : (bs : List ℕ) → length bs ≡ 16 → AreBytes bs
-    → number_bytes (number_at 0 bs) ++ (take 4 (drop 4 bs) ++ (number_bytes (number_at 8 bs) ++ number_bytes (number_at 12 bs))) ≡ bs
+    → le_bytes (number_at 0 bs) ++ (take 4 (drop 4 bs) ++ (le_bytes (number_at 8 bs) ++ le_bytes (number_at 12 bs))) ≡ bs
 long_back bs l h =
     let last : take 4 (drop 12 bs) ≡ drop 12 bs =
     (let n : 4 ≡ length (drop 12 bs) = omega (arith, length-drop 12 bs) in ap (λ n. take n (drop 12 bs)) n ∙ take-length (drop 12 bs)) in
-    let third : number_bytes (number_at 8 bs) ++ number_bytes (number_at 12 bs) ≡ drop 8 bs =
-    ap (λ n. n ++ number_bytes (number_at 12 bs)) (number_back 8 bs (omega arith) h)
+    let third : le_bytes (number_at 8 bs) ++ le_bytes (number_at 12 bs) ≡ drop 8 bs =
+    ap (λ n. n ++ le_bytes (number_at 12 bs)) (number_back 8 bs (omega arith) h)
     ∙ ap (λ n. take 4 (drop 8 bs) ++ n) (number_back 12 bs (omega arith) h ∙ last ∙ sym (drop-drop 4 8 bs))
     ∙ take-append-drop 4 (drop 8 bs) in
-    ap (λ n. n ++ (take 4 (drop 4 bs) ++ (number_bytes (number_at 8 bs) ++ number_bytes (number_at 12 bs)))) (number_back 0 bs (omega arith) h)
+    ap (λ n. n ++ (take 4 (drop 4 bs) ++ (le_bytes (number_at 8 bs) ++ le_bytes (number_at 12 bs)))) (number_back 0 bs (omega arith) h)
     ∙ ap (λ n. take 4 bs ++ (take 4 (drop 4 bs) ++ n)) (third ∙ sym (drop-drop 4 4 bs))
     ∙ ap (λ n. take 4 bs ++ n) (take-append-drop 4 (drop 4 bs)) ∙ take-append-drop 4 bs
 
@@ -97,8 +98,8 @@ length_by : (c : Bool) (n : ℕ) (r p : List ℕ) (b o : ℕ) → n ≡ view_len
 length_by true n r p b o = refl
 length_by false n r p b o = refl
 
-pub length_of : (bs : List ℕ) → number_at 0 bs ≡ view_length (view_of bs)
-length_of bs = length_by (nat_le (number_at 0 bs) 12) (number_at 0 bs) (drop 4 bs) (take 4 (drop 4 bs)) (number_at 8 bs) (number_at 12 bs)
+pub length_read : (bs : List ℕ) → number_at 0 bs ≡ view_length (view_of bs)
+length_read bs = length_by (nat_le (number_at 0 bs) 12) (number_at 0 bs) (drop 4 bs) (take 4 (drop 4 bs)) (number_at 8 bs) (number_at 12 bs)
 
 buffer_by : (c : Bool) (n : ℕ) (r p : List ℕ) (b o : ℕ) → number_at 4 r ≡ b → b ≡ buffer_of (cond c (inline n r) (long n p b o))
 buffer_by true n r p b o e = sym e

@@ -1,4 +1,5 @@
 -- The sixteen bytes of a view, and the parts that stand in them.
+use Rattle.arrow_flat.specs.Natives.{AreBytes}
 use Rattle.std.specs.Prelude.{◌≡◌, ℕ, ◌^◌, ◌<◌, ◌≤◌, nat_le, cond, List, ◌++◌, take, drop, length}
 use Rattle.std.specs.Int.{w32, from_le_bytes, to_le_bytes}
 use Rattle.std.specs.List.{AllByRecursion}
@@ -8,8 +9,8 @@ use Rattle.arrow_flat.specs.Views.{View, inline, long}
 abbrev pub number_at : ℕ → List ℕ → ℕ
 number_at at bs = from_le_bytes w32 (take 4 (drop at bs))
 
-abbrev pub number_bytes : ℕ → List ℕ
-number_bytes n = to_le_bytes w32 n
+abbrev pub le_bytes : ℕ → List ℕ
+le_bytes n = to_le_bytes w32 n
 
 -- The length, and up to twelve the rest as it stands; else the first four bytes, the buffer and the offset.
 abbrev pub view_of : List ℕ → View
@@ -18,8 +19,8 @@ view_of bs =
     (long (number_at 0 bs) (take 4 (drop 4 bs)) (number_at 8 bs) (number_at 12 bs))
 
 abbrev pub bytes_of : View → List ℕ
-bytes_of (inline n bs) = number_bytes n ++ bs
-bytes_of (long n p b o) = number_bytes n ++ (p ++ (number_bytes b ++ number_bytes o))
+bytes_of (inline n bs) = le_bytes n ++ bs
+bytes_of (long n p b o) = le_bytes n ++ (p ++ (le_bytes b ++ le_bytes o))
 
 -- The numbers where a long view has its buffer and its offset.
 abbrev pub buffer_of : View → ℕ
@@ -34,9 +35,6 @@ offset_of (long n p b o) = o
 abbrev pub prefix_of : View → List ℕ
 prefix_of (inline n bs) = take 4 bs
 prefix_of (long n p b o) = p
-
-abbrev pub AreBytes : List ℕ → Type 0
-AreBytes bs = AllByRecursion (λ b. b < 256) bs
 
 -- What sixteen bytes have: each byte and each number is one of its place.
 abbrev pub IsPlaced : View → Type 0

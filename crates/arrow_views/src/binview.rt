@@ -3,8 +3,9 @@ ghost use Rattle.std.specs.Prelude.{◌≡◌, ◌+◌, ◌<◌, ◌≤◌, leng
 ghost use Rattle.arrow_types.specs.Seen.{seen};
 ghost use Rattle.arrow_types.specs.Types.{physical_of};
 ghost use Rattle.arrow_flat.specs.Natives.{octets};
-ghost use Rattle.arrow_flat.specs.Primitives.{MaskFits, valid_at, unset_in, seen_mask};
-ghost use Rattle.arrow_views.specs.ViewArrays.{IsSound, RefusedFor, Refused, view_layout, AreViews, AreTextsIf, values_in, values_of, cut, half};
+ghost use Rattle.std.specs.Option.{option_copied};
+ghost use Rattle.arrow_flat.specs.Primitives.{MaskHasLength, valid_at, unset_in};
+ghost use Rattle.arrow_views.specs.ViewArrays.{IsSound, RefusedFor, Refused, physical_view, AreViews, AreTextsIf, values_in, values_of, cut, half};
 
 use crate::check::are_views;
 use crate::stored::is_stored_as_views;
@@ -106,8 +107,8 @@ impl<T: ViewType> BinaryViewArrayGeneric<T> {
         buffers: Vec<Buffer<u8>>,
         validity: Option<Bitmap>,
     ) -> BinaryViewArrayGeneric<T>
-        requires fits { MaskFits validity (count views) }
-        requires stored { physical_of (seen dtype) ≡ Some (view_layout T.IS_TEXT) }
+        requires fits { MaskHasLength validity (count views) }
+        requires stored { physical_of (seen dtype) ≡ Some (physical_view T.IS_TEXT) }
         requires placed { AreViews (map octets buffers.items) views }
         requires texts { AreTextsIf T.IS_TEXT (values_in (map octets buffers.items) views) }
         ensures { result ≡ record { dtype = dtype; views = views; buffers = map octets buffers.items; mask = validity } }
@@ -156,7 +157,7 @@ impl<T: ViewType> BinaryViewArrayGeneric<T> {
 
     /// The mask, where there is one: a set bit for each slot that isn't null.
     pub fn validity(&self) -> Option<&Bitmap>
-        ensures { seen_mask result ≡ self.now.mask }
+        ensures { option_copied result ≡ self.now.mask }
     {
         self.validity.as_ref()
     }
@@ -204,7 +205,7 @@ impl<T: ViewType> BinaryViewArrayGeneric<T> {
 
     /// Puts another mask, or none, in the mask's place.
     pub fn set_validity(&mut self, validity: Option<Bitmap>)
-        requires { MaskFits validity (count self.old.views) }
+        requires { MaskHasLength validity (count self.old.views) }
         ensures { self.new ≡ record { dtype = self.old.dtype; views = self.old.views; buffers = self.old.buffers; mask = validity } }
     {
         know_led(&validity);

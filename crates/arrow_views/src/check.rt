@@ -1,6 +1,6 @@
 //! Whether a view stands for a value as it should: zeros stand behind a value that it holds; another value is within its buffer,
 //! and begins with the bytes that the view tells.
-ghost use Rattle.std.specs.Prelude.{◌≡◌, ◌≤◌, ◌<◌, ℕ, List, length as count, map, take, replicate, Decides};
+ghost use Rattle.std.specs.Prelude.{◌≡◌, ◌↔◌, ◌≤◌, ◌<◌, ℕ, List, length as count, map, take, replicate, IsTrue};
 ghost use Rattle.arrow_flat.specs.Natives.{octets};
 ghost use Rattle.arrow_flat.specs.Views.{IsView, view_length};
 ghost use Rattle.arrow_views.specs.ViewArrays.{AreViews};
@@ -12,7 +12,7 @@ use arrow_buffers::Buffer;
 
 /// Whether each view stands for a value in these buffers.
 pub(crate) fn are_views(views: &[View], buffers: &[Buffer<u8>]) -> bool
-    ensures { Decides result (AreViews (map octets buffers.now) views.now) }
+    ensures { IsTrue result ↔ (AreViews (map octets buffers.now) views.now) }
 {
     for view in views {
         if !is_view(view, buffers) {
@@ -24,7 +24,7 @@ pub(crate) fn are_views(views: &[View], buffers: &[Buffer<u8>]) -> bool
 
 /// Whether the view stands for a value in these buffers.
 fn is_view(view: &View, buffers: &[Buffer<u8>]) -> bool
-    ensures { Decides result (IsView (map octets buffers.now) view.now) }
+    ensures { IsTrue result ↔ (IsView (map octets buffers.now) view.now) }
 {
     if view.length() <= 12 {
         is_padded(view)
@@ -36,7 +36,7 @@ fn is_view(view: &View, buffers: &[Buffer<u8>]) -> bool
 /// Whether zeros stand behind the value that the view holds.
 fn is_padded(view: &View) -> bool
     requires { view_length view.now ≤ 12 }
-    ensures { (buffers : List (List ℕ)) → Decides result (IsView buffers view.now) }
+    ensures { (buffers : List (List ℕ)) → IsTrue result ↔ (IsView buffers view.now) }
 {
     let length = view.length() as usize;
     are_zeros(&view.as_bytes()[4 + length..])
@@ -44,7 +44,7 @@ fn is_padded(view: &View) -> bool
 
 /// Whether each byte is 0.
 fn are_zeros(bytes: &[u8]) -> bool
-    ensures { Decides result (bytes.now ≡ replicate (count bytes.now) 0) }
+    ensures { IsTrue result ↔ (bytes.now ≡ replicate (count bytes.now) 0) }
 {
     for byte in bytes {
         if *byte != 0 {
@@ -57,7 +57,7 @@ fn are_zeros(bytes: &[u8]) -> bool
 /// Whether the value is within the buffer that the view names, and begins with the view's bytes.
 fn is_within(view: &View, buffers: &[Buffer<u8>]) -> bool
     requires { 12 < view_length view.now }
-    ensures { Decides result (IsView (map octets buffers.now) view.now) }
+    ensures { IsTrue result ↔ (IsView (map octets buffers.now) view.now) }
 {
     let number = view.buffer() as usize;
     if number >= buffers.len() {
@@ -72,7 +72,7 @@ fn is_within(view: &View, buffers: &[Buffer<u8>]) -> bool
 /// Whether a value begins with the view's bytes.
 fn begins_with_prefix(value: &[u8], view: &View) -> bool
     requires { 12 < count value.now }
-    ensures { Decides result (prefix_of view.now ≡ take 4 (octets value.now)) }
+    ensures { IsTrue result ↔ (prefix_of view.now ≡ take 4 (octets value.now)) }
 {
     know_bytes(value);
     view.as_bytes()[4..8] == value[..4]

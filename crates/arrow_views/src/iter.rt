@@ -13,7 +13,7 @@ pub struct ViewIter<'a, T: ViewType> {
 impl<'a, T: ViewType> Model for ViewIter<'a, T> {
     ghost use Rattle.std.specs.Prelude.{◌-◌, ◌≤◌, ℕ, List, length, take, drop};
     ghost use Rattle.std.specs.declared.option.Option.{Option};
-    ghost use Rattle.arrow_flat.specs.Primitives.{MaskFits};
+    ghost use Rattle.arrow_flat.specs.Primitives.{MaskHasLength};
     ghost use Rattle.arrow_views.specs.ViewArrays.{slots};
 
     ghost Value = { List (Option (List ℕ)) };
@@ -21,7 +21,7 @@ impl<'a, T: ViewType> Model for ViewIter<'a, T> {
     ghost view = { λ it. take (it.back - it.front) (drop it.front (slots it.array.now)) };
 
     ghost invariant = { λ it. (it.front ≤ it.back) × (it.back ≤ length it.array.now.views)
-        × MaskFits it.array.now.mask (length it.array.now.views) };
+        × MaskHasLength it.array.now.mask (length it.array.now.views) };
 }
 
 /// The values of an array, those under nulls too, seen as the list of those that are left.

@@ -1,7 +1,7 @@
 //! Bytes are below 256.
 ghost use Rattle.std.specs.Prelude.{◌≡◌};
 ghost use Rattle.arrow_flat.specs.Natives.{octets};
-ghost use Rattle.arrow_views.specs.ViewParts.{AreBytes};
+ghost use Rattle.arrow_flat.specs.Natives.{AreBytes};
 
 /// Tells a caller that each byte is its own number. It does nothing.
 pub(crate) fn know_bytes(bytes: &[u8])

@@ -1,5 +1,5 @@
 //! Whether the values that views stand for are texts, and the bytes of a value.
-ghost use Rattle.std.specs.Prelude.{◌≡◌, ◌≤◌, ◌<◌, ℕ, List, true, IsUtf8, length as count, map, Decides};
+ghost use Rattle.std.specs.Prelude.{◌≡◌, ◌↔◌, ◌≤◌, ◌<◌, ℕ, List, true, IsUtf8, length as count, map, IsTrue};
 ghost use Rattle.std.specs.Str.{IsCharBoundary};
 ghost use Rattle.arrow_flat.specs.Natives.{octets};
 ghost use Rattle.arrow_flat.specs.Pieces.{AreTexts};
@@ -48,7 +48,7 @@ fn named<'a>(view: &View, buffers: &'a [Buffer<u8>]) -> &'a [u8]
 /// Whether each value is UTF-8, where the values are texts.
 pub(crate) fn are_texts_if(is_text: bool, views: &[View], buffers: &[Buffer<u8>]) -> bool
     requires { AreViews (map octets buffers.now) views.now }
-    ensures { Decides result (AreTextsIf is_text (values_in (map octets buffers.now) views.now)) }
+    ensures { IsTrue result ↔ (AreTextsIf is_text (values_in (map octets buffers.now) views.now)) }
 {
     !is_text || are_texts(views, buffers)
 }
@@ -56,7 +56,7 @@ pub(crate) fn are_texts_if(is_text: bool, views: &[View], buffers: &[Buffer<u8>]
 /// Whether each value is UTF-8. Where the buffers are, each as a whole, only the ends of long values are looked at.
 fn are_texts(views: &[View], buffers: &[Buffer<u8>]) -> bool
     requires { AreViews (map octets buffers.now) views.now }
-    ensures { Decides result (AreTexts (values_in (map octets buffers.now) views.now)) }
+    ensures { IsTrue result ↔ (AreTexts (values_in (map octets buffers.now) views.now)) }
 {
     let whole = are_whole_texts(buffers);
     for view in views {
@@ -69,7 +69,7 @@ fn are_texts(views: &[View], buffers: &[Buffer<u8>]) -> bool
 
 /// Whether each buffer is UTF-8.
 fn are_whole_texts(buffers: &[Buffer<u8>]) -> bool
-    ensures { Decides result (AreTexts (map octets buffers.now)) }
+    ensures { IsTrue result ↔ (AreTexts (map octets buffers.now)) }
 {
     for buffer in buffers {
         if !is_text(buffer.as_slice()) {
@@ -81,7 +81,7 @@ fn are_whole_texts(buffers: &[Buffer<u8>]) -> bool
 
 /// Whether the bytes are UTF-8.
 fn is_text(bytes: &[u8]) -> bool
-    ensures { Decides result (IsUtf8 (octets bytes.now)) }
+    ensures { IsTrue result ↔ (IsUtf8 (octets bytes.now)) }
 {
     know_bytes(bytes);
     std::str::from_utf8(bytes).is_ok()
@@ -91,7 +91,7 @@ fn is_text(bytes: &[u8]) -> bool
 fn is_text_view(view: &View, buffers: &[Buffer<u8>], whole: bool) -> bool
     requires view { IsView (map octets buffers.now) view.now }
     requires whole { whole ≡ true → AreTexts (map octets buffers.now) }
-    ensures { Decides result (IsUtf8 (view_bytes (map octets buffers.now) view.now)) }
+    ensures { IsTrue result ↔ (IsUtf8 (view_bytes (map octets buffers.now) view.now)) }
 {
     if whole && view.length() > 12 {
         has_borders(view, buffers)
@@ -105,7 +105,7 @@ fn has_borders(view: &View, buffers: &[Buffer<u8>]) -> bool
     requires view { IsView (map octets buffers.now) view.now }
     requires long { 12 < view_length view.now }
     requires whole { AreTexts (map octets buffers.now) }
-    ensures { Decides result (IsUtf8 (view_bytes (map octets buffers.now) view.now)) }
+    ensures { IsTrue result ↔ (IsUtf8 (view_bytes (map octets buffers.now) view.now)) }
 {
     let bytes = buffers[view.buffer() as usize].as_slice();
     let start = view.offset() as usize;
@@ -116,7 +116,7 @@ fn has_borders(view: &View, buffers: &[Buffer<u8>]) -> bool
 /// Whether no character of a text goes on past this place.
 fn is_border(bytes: &[u8], at: usize) -> bool
     requires { at ≤ count bytes.now }
-    ensures { Decides result (IsCharBoundary (octets bytes.now) at) }
+    ensures { IsTrue result ↔ (IsCharBoundary (octets bytes.now) at) }
 {
     know_bytes(bytes);
     at == bytes.len() || bytes[at] < 128 || bytes[at] >= 192

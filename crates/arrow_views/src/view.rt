@@ -24,7 +24,8 @@ impl Model for View {
     ghost use Rattle.std.proofs.Common.{ap};
     ghost use Rattle.arrow_flat.specs.Views as views;
     ghost use Rattle.arrow_flat.specs.ViewCode.{view_code};
-    ghost use Rattle.arrow_views.specs.ViewParts.{view_of, bytes_of, AreBytes};
+    ghost use Rattle.arrow_flat.specs.Natives.{AreBytes};
+    ghost use Rattle.arrow_views.specs.ViewParts.{view_of, bytes_of};
     ghost use Rattle.arrow_views.specs.ViewBytes.{bytes_back};
 
     ghost Value = { views.View };

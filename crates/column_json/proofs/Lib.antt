@@ -1,10 +1,4 @@
-pub mod ColumnBack
-pub mod DataBack
-pub mod DataWritten
 pub mod NoFloat
-pub mod NumbersBack
 pub mod Octets
 pub mod Offsets
-pub mod Spelled
-pub mod TextBack
 pub mod ViewParts

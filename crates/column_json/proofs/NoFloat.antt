@@ -9,12 +9,12 @@ use Rattle.arrow_buffers.specs.Bits.{Bits}
 use Rattle.arrow_types.specs.declared.datatype.PrimitiveType.{PrimitiveType}
 use Rattle.arrow_types.specs.declared.datatype.PrimitiveType.TheVariants as primitive
 use Rattle.arrow_flat.specs.Views.{View, inline, long}
-use Rattle.arrow_json.specs.TypeJson.{type_value}
-use Rattle.arrow_json.proofs.NoFloats.{type_no_float}
-use Rattle.arrow_meaning.specs.Forms.{form_of, primitive_by}
-use Rattle.arrow_meaning.specs.Layouts.{Layout, booleans, primitives, binaries, fixed_size_binaries, views, type_of}
-use Rattle.column_json.specs.Values.{mask_value, bytes_value, integer_value, first_of, list_value, number_value}
-use Rattle.column_json.specs.Writes.{view_value, data_value, column_value, column_text}
+use Rattle.type_json.specs.TypeJson.{type_value}
+use Rattle.type_json.proofs.NoFloats.{type_no_float}
+use Rattle.arrow_layout.specs.Forms.{form_of, primitive_by}
+use Rattle.arrow_layout.specs.Layouts.{Layout, booleans, primitives, binaries, fixed_size_binaries, views, type_of}
+use Rattle.column_grammar.specs.Values.{mask_value, bytes_value, integer_value, first_integer, list_value, number_value}
+use Rattle.column_grammar.specs.Writes.{view_value, data_value, column_value, column_text}
 
 both : (a b : Bool) → a ≡ false → b ≡ false → (a || b) ≡ false
 both a b h k = ap (λ x. x || b) h ∙ k
@@ -34,19 +34,19 @@ number_no_float : (p : PrimitiveType) (zs : List ℤ) → has_float (number_valu
 number_no_float primitive.Int128 zs = refl
 number_no_float primitive.DaysMs zs = list_no_float integer_value integer_no_float zs
 number_no_float primitive.MonthDayNano zs = list_no_float integer_value integer_no_float zs
-number_no_float primitive.Int8 zs = integer_no_float (first_of zs)
-number_no_float primitive.Int16 zs = integer_no_float (first_of zs)
-number_no_float primitive.Int32 zs = integer_no_float (first_of zs)
-number_no_float primitive.Int64 zs = integer_no_float (first_of zs)
-number_no_float primitive.Int256 zs = integer_no_float (first_of zs)
-number_no_float primitive.UInt8 zs = integer_no_float (first_of zs)
-number_no_float primitive.UInt16 zs = integer_no_float (first_of zs)
-number_no_float primitive.UInt32 zs = integer_no_float (first_of zs)
-number_no_float primitive.UInt64 zs = integer_no_float (first_of zs)
-number_no_float primitive.UInt128 zs = integer_no_float (first_of zs)
-number_no_float primitive.Float16 zs = integer_no_float (first_of zs)
-number_no_float primitive.Float32 zs = integer_no_float (first_of zs)
-number_no_float primitive.Float64 zs = integer_no_float (first_of zs)
+number_no_float primitive.Int8 zs = integer_no_float (first_integer zs)
+number_no_float primitive.Int16 zs = integer_no_float (first_integer zs)
+number_no_float primitive.Int32 zs = integer_no_float (first_integer zs)
+number_no_float primitive.Int64 zs = integer_no_float (first_integer zs)
+number_no_float primitive.Int256 zs = integer_no_float (first_integer zs)
+number_no_float primitive.UInt8 zs = integer_no_float (first_integer zs)
+number_no_float primitive.UInt16 zs = integer_no_float (first_integer zs)
+number_no_float primitive.UInt32 zs = integer_no_float (first_integer zs)
+number_no_float primitive.UInt64 zs = integer_no_float (first_integer zs)
+number_no_float primitive.UInt128 zs = integer_no_float (first_integer zs)
+number_no_float primitive.Float16 zs = integer_no_float (first_integer zs)
+number_no_float primitive.Float32 zs = integer_no_float (first_integer zs)
+number_no_float primitive.Float64 zs = integer_no_float (first_integer zs)
 
 mask_no_float : (m : Option Bits) → has_float (mask_value m) ≡ false
 mask_no_float None = refl

@@ -6,9 +6,9 @@ use Rattle.std.specs.Int.RustNames.{FitsSigned}
 use Rattle.std.proofs.lemmas.Int.{int_wrap_fits}
 use Rattle.arrow_flat.specs.Natives.{octets, signed}
 use Rattle.arrow_types.specs.declared.datatype.PrimitiveType.TheVariants as primitive
-use Rattle.arrow_meaning.specs.SlotsOf.{AreBytes}
-use Rattle.column_json.specs.Values.{bytes_value, number_value}
-use Rattle.column_json.proofs.NumbersBack.{bytes_of, high_are}
+use Rattle.arrow_flat.specs.Natives.{AreBytes}
+use Rattle.column_grammar.specs.Values.{bytes_value, number_value}
+use Rattle.column_grammar.proofs.NumbersBack.{bytes_of, high_are}
 
 pub octets_bytes : (bs : List ℕ) → AreBytes bs → octets bs ≡ bs
 octets_bytes [] h = refl

@@ -4,9 +4,9 @@ use Rattle.std.specs.Prelude.{pos}
 use Rattle.arrow_flat.specs.Natives.{octets}
 use Rattle.arrow_flat.specs.Views.{View, inline, long, view_length}
 use Rattle.arrow_views.specs.ViewParts.{bytes_of, buffer_of, offset_of, IsPlaced}
-use Rattle.arrow_meaning.proofs.Lists.{all_take}
-use Rattle.column_json.specs.Values.{bytes_value, integer_value, list_value}
-use Rattle.column_json.specs.Writes.{view_value}
+use Rattle.arrow_flat.proofs.Lists.{all_take}
+use Rattle.column_grammar.specs.Values.{bytes_value, integer_value, list_value}
+use Rattle.column_grammar.specs.Writes.{view_value}
 use Rattle.column_json.proofs.Octets.{octets_bytes}
 
 -- the bytes of a short value, and how they are written

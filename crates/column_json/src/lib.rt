@@ -1,7 +1,6 @@
-//! Columns as JSON values: the grammar, the writer, and the laws of the written text.
+//! Columns as JSON values and as text: the writer.
 #![tactic(auto)]
 
-pub mod laws;
 mod native;
 mod view_writer;
 mod writer;

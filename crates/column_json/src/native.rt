@@ -1,7 +1,7 @@
 //! The values of primitive arrays as JSON values.
 ghost use Rattle.std.specs.Prelude.{◌≡◌, IfOk};
 ghost use Rattle.serde_json.specs.View.{view};
-ghost use Rattle.column_json.specs.Values.{number_value};
+ghost use Rattle.column_grammar.specs.Values.{number_value};
 
 use crate::writer::bytes_json;
 use arrow_flat::{DaysMs, MonthDayNano, NativeType};

@@ -4,8 +4,8 @@ ghost use Rattle.serde_json.specs.View.{view};
 ghost use Rattle.arrow_flat.specs.Natives.{octets};
 ghost use Rattle.arrow_flat.specs.Views.{view_length};
 ghost use Rattle.arrow_meaning.specs.Nodes.{view_layout};
-ghost use Rattle.column_json.specs.Values.{bytes_value, integer_value, list_value};
-ghost use Rattle.column_json.specs.Writes.{view_value, data_value};
+ghost use Rattle.column_grammar.specs.Values.{bytes_value, integer_value, list_value};
+ghost use Rattle.column_grammar.specs.Writes.{view_value, data_value};
 
 use crate::writer::{bytes_json, mask_json};
 use arrow_buffers::Buffer;

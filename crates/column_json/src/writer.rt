@@ -4,21 +4,21 @@ ghost use Rattle.serde_json.specs.View.{view};
 ghost use Rattle.hex.specs.Hex.{encode_lower};
 ghost use Rattle.arrow_buffers.specs.Bits.{Bits};
 ghost use Rattle.arrow_flat.specs.Natives.{octets};
-ghost use Rattle.arrow_flat.specs.Primitives.{seen_mask};
-ghost use Rattle.arrow_meaning.specs.Nodes.{boolean_layout, primitive_layout, binary_layout, fixed_size_binary_layout, numbers_of, layout_of};
-ghost use Rattle.column_json.specs.Values.{bit_char, bits_value, mask_value, bytes_value, integer_value, list_value, number_value};
-ghost use Rattle.column_json.specs.Writes.{primitives_value, binaries_value, data_value, column_value, column_text};
+ghost use Rattle.std.specs.Option.{option_copied};
+ghost use Rattle.arrow_meaning.specs.Nodes.{boolean_layout, primitive_layout, binary_layout, fixed_size_binary_layout, primitive_node_layout, layout_of};
+ghost use Rattle.column_grammar.specs.Values.{bit_char, bits_value, mask_value, bytes_value, integer_value, list_value, number_value};
+ghost use Rattle.column_grammar.specs.Writes.{primitives_value, binaries_value, data_value, column_value, column_text};
 
 use crate::native::JsonNative;
 use crate::view_writer::view_json;
 use arrow_buffers::{Bitmap, Offset, OffsetsBuffer};
 use arrow_bytes::{BinaryArray, FixedSizeBinaryArray, Utf8Array};
 use arrow_flat::{BooleanArray, PrimitiveArray};
-use arrow_json::type_json;
 use arrow_meaning::{ArrayRef, Node, PrimitiveNode};
 use arrow_types::Mem;
 use serde_json::{Value, json};
 use std::alloc::Global;
+use type_json::type_json;
 
 /// The character of a bit.
 fn bit_text(bit: bool) -> &'static str
@@ -40,7 +40,7 @@ fn bits_json(alloc: Global, bits: &Bitmap) -> Mem<Value>
 
 /// The bits of a mask, null where there is none.
 pub(crate) fn mask_json(alloc: Global, mask: Option<&Bitmap>) -> Mem<Value>
-    ensures { IfOk result (λ v. view v ≡ mask_value (seen_mask mask.entry)) }
+    ensures { IfOk result (λ v. view v ≡ mask_value (option_copied mask.entry)) }
 {
     match mask {
         None => Ok(Value::Null),
@@ -124,7 +124,7 @@ fn pieces_json<O: Offset>(
     bytes: &[u8],
     mask: Option<&Bitmap>,
 ) -> Mem<Value>
-    ensures { IfOk result (λ v. view v ≡ binaries_value (seen_mask mask.entry) (map O.number offsets.now) (octets bytes.now)) }
+    ensures { IfOk result (λ v. view v ≡ binaries_value (option_copied mask.entry) (map O.number offsets.now) (octets bytes.now)) }
 {
     json!(in alloc; {
         "bytes": bytes_json(alloc, bytes)?,
@@ -161,7 +161,7 @@ pub fn fixed_size_binary_json(alloc: Global, array: &FixedSizeBinaryArray) -> Me
 
 /// The data of an array of any native type.
 fn numbers_node_json(alloc: Global, node: &PrimitiveNode) -> Mem<Value>
-    ensures { IfOk result (λ v. view v ≡ data_value (numbers_of node.now)) }
+    ensures { IfOk result (λ v. view v ≡ data_value (primitive_node_layout node.now)) }
 {
     match node {
         PrimitiveNode::Int8(array) => primitive_json(alloc, array),

@@ -65,8 +65,8 @@ fn array_in(alloc: Global, column: Column) -> Option<ArrayRef>
 }
 
 /// Whether these are 1, 7 and 3 under the mask 101.
-fn are_numbers(data: &ColumnData) -> bool {
-    match data {
+fn are_numbers(column_data: &ColumnData) -> bool {
+    match column_data {
         ColumnData::Primitive(PrimitiveData::Int32(parts)) => match &parts.validity {
             Some(mask) => {
                 parts.values.as_slice() == [1, 7, 3].as_slice()

@@ -24,14 +24,14 @@ use Rattle.arrow_types.specs.declared.error.Reason.{Reason}
 use Rattle.arrow_types.specs.declared.error.Reason.TheVariants.{MaskLength, WrongLogicalType, NotCarried, NotMultiple, OffsetPastValues, NotUtf8}
 use Rattle.arrow_flat.specs.Natives.{octets}
 use Rattle.arrow_flat.specs.Pieces.{pieces, AreTexts}
-use Rattle.arrow_flat.specs.Primitives.{MaskFits as MaskCovers}
+use Rattle.arrow_flat.specs.Primitives.{MaskHasLength as MaskCovers}
 use Rattle.arrow_flat.specs.Refusals as flat
 use Rattle.arrow_bytes.specs.Binaries as bytes
 use Rattle.arrow_bytes.specs.FixedSizeBinaries as sized
 use Rattle.arrow_bytes.specs.Texts as texts
-use Rattle.arrow_meaning.specs.Layouts.{booleans, primitives, binaries, fixed_size_binaries}
-use Rattle.arrow_meaning.specs.SlotsOf.{IsTextIf}
-use Rattle.arrow_meaning.specs.WellFormed.{MaskFits, AscendTo, AreOffsets, WellFormed}
+use Rattle.arrow_layout.specs.Layouts.{booleans, primitives, binaries, fixed_size_binaries}
+use Rattle.arrow_layout.specs.SlotsOf.{IsTextIf}
+use Rattle.arrow_layout.specs.WellFormed.{MaskFits, AscendTo, AreOffsetsWithin, WellFormed}
 use Rattle.column_read.proofs.TextForms.{text_form}
 
 covers : (m : Option Bits) (n : ℕ) → MaskFits m n → MaskCovers m n
@@ -59,7 +59,7 @@ bad_primitives parts p e t m xs stored h w = flat_refused e (physical.Primitive 
 
 -- ---- values of one size
 
-carried_size : (t : TypeData) (k : ℕ) → sized.size_of t ≡ Some k → IsCarried t → 0 < k
+carried_size : (t : TypeData) (k : ℕ) → sized.declared_size t ≡ Some k → IsCarried t → 0 < k
 carried_size (T.fixed_size_binary j) k e c =
     let same : j ≡ k = cc in
     subst (λ i. 0 < i) same c.0
@@ -78,7 +78,7 @@ sized_fits NotMultiple k m n p e w h = h.1 (whole n k e)
 sized_fits MaskLength k m n p e w h = h.2 (covers m (n / k) w)
 sized_fits _ k m n p e w h = h
 
-pub bad_sized : (e : PolarsError) (t : ArrowDataType) (k : ℕ) (m : Option Bits) (bs : List ℕ) → sized.size_of (seen t) ≡ Some k → sized.Refused e t m (length bs)
+pub bad_sized : (e : PolarsError) (t : ArrowDataType) (k : ℕ) (m : Option Bits) (bs : List ℕ) → sized.declared_size (seen t) ≡ Some k → sized.Refused e t m (length bs)
     → WellFormed (fixed_size_binaries (seen t) m k (length bs / k) (octets bs)) → ⊥
 bad_sized (ComputeError reason) t k m bs size h w =
     sized_fits reason k m (length bs) (carried_size (seen t) k size w.0.carried) (sym (length-map bs (λ b. b % 256)) ∙ w.1) w.0.mask (subst (λ o. sized.RefusedAt reason o m (length bs)) size h)
@@ -97,7 +97,7 @@ rises limit top a [] r h = refl
 rises limit top a (pos b ∷ os) r h = falls_later (pos a) (pos b) os (above a b h.0) ∙ rises limit top b os r.1 h.1
 rises limit top a (negsuc b ∷ os) r h = absurd r.0
 
-unrefused : (limit top : ℕ) (os : List ℤ) → AreOffsets limit top os → offsets_refusal os ≡ None
+unrefused : (limit top : ℕ) (os : List ℤ) → AreOffsetsWithin limit top os → offsets_refusal os ≡ None
 unrefused limit top [] h = absurd h.ascend
 unrefused limit top (pos a ∷ os) h =
     ap (λ b. if b then Some Negative else (if falls (pos a) os then Some NotMonotone else None)) (not_negative a)
@@ -108,7 +108,7 @@ ends_from : (top a : ℕ) (os : List ℤ) → AscendTo top a (map to_nat os) →
 ends_from top a [] h = h
 ends_from top a (o ∷ os) h = ends_from top (to_nat o) os h.1
 
-ends_within : (limit top : ℕ) (os : List ℤ) → AreOffsets limit top os → end_of os ≤ top
+ends_within : (limit top : ℕ) (os : List ℤ) → AreOffsetsWithin limit top os → end_of os ≤ top
 ends_within limit top [] h = absurd h.ascend
 ends_within limit top (o ∷ os) h = ends_from top (to_nat o) os h.ascend
 
@@ -128,10 +128,10 @@ bytes_fit MaskLength layout t m os n stored w e h = flat_fits MaskLength layout 
 bytes_fit WrongLogicalType layout t m os n stored w e h = flat_fits WrongLogicalType layout t m (pred (length os)) stored w h.1
 bytes_fit _ layout t m os n stored w e h = h.1
 
-pub bad_binaries : (e : PolarsError) (large : Bool) (t : ArrowDataType) (m : Option Bits) (os : List ℤ) (bs : List ℕ) → physical_of (seen t) ≡ Some (bytes.binary_layout large)
-    → bytes.Refused e (bytes.binary_layout large) t m os (length bs) → WellFormed (binaries (seen t) m os (octets bs)) → ⊥
+pub bad_binaries : (e : PolarsError) (large : Bool) (t : ArrowDataType) (m : Option Bits) (os : List ℤ) (bs : List ℕ) → physical_of (seen t) ≡ Some (bytes.physical_binary large)
+    → bytes.Refused e (bytes.physical_binary large) t m os (length bs) → WellFormed (binaries (seen t) m os (octets bs)) → ⊥
 bad_binaries (ComputeError reason) large t m os bs stored h w =
-    bytes_fit reason (bytes.binary_layout large) t m os (length bs) stored w.0.mask (subst (λ n. end_of os ≤ n) (length-map bs (λ b. b % 256)) (ends_within _ _ os w.1)) h
+    bytes_fit reason (bytes.physical_binary large) t m os (length bs) stored w.0.mask (subst (λ n. end_of os ≤ n) (length-map bs (λ b. b % 256)) (ends_within _ _ os w.1)) h
 bad_binaries _ large t m os bs stored h w = h
 
 texts_fit : (reason : Reason) (layout : PhysicalType) (t : ArrowDataType) (m : Option Bits) (os : List ℤ) (bs : List ℕ) → physical_of (seen t) ≡ Some layout → MaskFits m (pred (length os)) → end_of os ≤ length bs
@@ -142,10 +142,10 @@ texts_fit MaskLength layout t m os bs stored w e k h = flat_fits MaskLength layo
 texts_fit WrongLogicalType layout t m os bs stored w e k h = flat_fits WrongLogicalType layout t m (pred (length os)) stored w h.1
 texts_fit _ layout t m os bs stored w e k h = h.1
 
-pub bad_texts : (e : PolarsError) (large : Bool) (t : ArrowDataType) (m : Option Bits) (os : List ℤ) (bs : List ℕ) → physical_of (seen t) ≡ Some (bytes.text_layout large) → octets bs ≡ bs
-    → texts.Refused e (bytes.text_layout large) t m os bs → WellFormed (binaries (seen t) m os (octets bs)) → ⊥
+pub bad_texts : (e : PolarsError) (large : Bool) (t : ArrowDataType) (m : Option Bits) (os : List ℤ) (bs : List ℕ) → physical_of (seen t) ≡ Some (bytes.physical_utf8 large) → octets bs ≡ bs
+    → texts.Refused e (bytes.physical_utf8 large) t m os bs → WellFormed (binaries (seen t) m os (octets bs)) → ⊥
 bad_texts (ComputeError reason) large t m os bs stored same h w =
     let v : WellFormed (binaries (seen t) m os bs) = subst (λ xs. WellFormed (binaries (seen t) m os xs)) same w in
     let k : AllByRecursion (IsTextIf true) (pieces (map to_nat os) bs) = subst (λ b. AllByRecursion (IsTextIf b) (pieces (map to_nat os) bs)) (text_form (seen t) large stored) v.4 in
-    texts_fit reason (bytes.text_layout large) t m os bs stored v.0.mask (ends_within _ _ os v.1) k h
+    texts_fit reason (bytes.physical_utf8 large) t m os bs stored v.0.mask (ends_within _ _ os v.1) k h
 bad_texts _ large t m os bs stored same h w = h

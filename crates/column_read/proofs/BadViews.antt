@@ -9,14 +9,14 @@ use Rattle.arrow_types.specs.declared.datatype.ArrowDataType.{ArrowDataType}
 use Rattle.arrow_types.specs.declared.error.PolarsError.{PolarsError}
 use Rattle.arrow_types.specs.declared.error.PolarsError.TheVariants.{ComputeError}
 use Rattle.arrow_types.specs.declared.error.Reason.TheVariants.{MaskLength, WrongLogicalType, ViewRange, NotUtf8}
-use Rattle.arrow_flat.specs.Primitives.{MaskFits as MaskCovers}
+use Rattle.arrow_flat.specs.Primitives.{MaskHasLength as MaskCovers}
 use Rattle.arrow_flat.specs.Pieces.{AreTexts}
 use Rattle.arrow_flat.specs.Views.{View}
-use Rattle.arrow_views.specs.ViewArrays.{view_layout, AreTextsIf, values_in, Refused}
-use Rattle.arrow_meaning.specs.Forms.{form_of, text_by}
-use Rattle.arrow_meaning.specs.Layouts.{views}
-use Rattle.arrow_meaning.specs.SlotsOf.{IsTextIf}
-use Rattle.arrow_meaning.specs.WellFormed.{MaskFits, WellFormed}
+use Rattle.arrow_views.specs.ViewArrays.{physical_view, AreTextsIf, values_in, Refused}
+use Rattle.arrow_layout.specs.Forms.{form_of, text_by}
+use Rattle.arrow_layout.specs.Layouts.{views}
+use Rattle.arrow_layout.specs.SlotsOf.{IsTextIf}
+use Rattle.arrow_layout.specs.WellFormed.{MaskFits, WellFormed}
 use Rattle.arrow_meaning.proofs.FlatLayouts.{view_form}
 
 -- one that isn't spoils all
@@ -37,7 +37,7 @@ texts true xs h = by xs h
     by [] h = tt
     by (x ∷ xs) h = (h.0, by xs h.1)
 
-pub bad_views : (e : PolarsError) (text : Bool) (t : ArrowDataType) (m : Option Bits) (vs : List View) (buffers : List (List ℕ)) → physical_of (seen t) ≡ Some (view_layout text) → Refused e text t m vs buffers
+pub bad_views : (e : PolarsError) (text : Bool) (t : ArrowDataType) (m : Option Bits) (vs : List View) (buffers : List (List ℕ)) → physical_of (seen t) ≡ Some (physical_view text) → Refused e text t m vs buffers
     → WellFormed (views (seen t) m vs buffers) → ⊥
 bad_views (ComputeError MaskLength) text t m vs buffers stored h w = h (covers m (length vs) w.0.mask)
 bad_views (ComputeError WrongLogicalType) text t m vs buffers stored h w = h.1 stored

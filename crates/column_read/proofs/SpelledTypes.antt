@@ -10,8 +10,8 @@ use Rattle.arrow_types.specs.declared.datatype.IntegerType.{IntegerType}
 use Rattle.arrow_types.specs.declared.datatype.IntegerType.TheVariants as integer
 use Rattle.arrow_types.specs.declared.datatype.IntervalUnit.{IntervalUnit}
 use Rattle.arrow_types.specs.declared.datatype.IntervalUnit.TheVariants.{YearMonth, DayTime, MonthDayNano}
-use Rattle.arrow_json.specs.TypeJson.{integer_or, named, plain_named, bytes_named, text_named, view_named, integer_named, flat_two, of_two, of_three, of_four, timestamp_from, decimal_from, union_from, dictionary_from, extension_from, unit_in, interval_in, mode_in, integer_in, ids_in, type_in, field_in, fields_in}
-use Rattle.arrow_json.specs.Values.{whole_in, text_or_null}
+use Rattle.type_json.specs.TypeJson.{integer_or, named, plain_named, bytes_named, text_named, view_named, integer_named, flat_two, of_two, of_three, of_four, timestamp_from, decimal_from, union_from, dictionary_from, extension_from, unit_in, interval_in, mode_in, integer_in, ids_in, type_in, field_in, fields_in}
+use Rattle.type_json.specs.Values.{whole_in, text_or_null}
 use Rattle.column_read.specs.Parts.{IsNativeStored}
 
 abbrev IsNativeType : TypeData → Type 0

@@ -6,11 +6,11 @@ use Rattle.arrow_types.specs.TypeData.{TypeData}
 use Rattle.arrow_types.specs.TypeData as T
 use Rattle.arrow_types.specs.Types.{physical_of}
 use Rattle.arrow_types.specs.declared.datatype.PhysicalType.{PhysicalType}
-use Rattle.arrow_bytes.specs.FixedSizeBinaries.{size_of}
-use Rattle.arrow_meaning.specs.Layouts.{Layout}
-use Rattle.arrow_meaning.specs.Forms.{Form, form_of, binaries_of, booleans_of, dictionaries_of, fixed_size_binaries_of, fixed_size_lists_of, lists_of, no_form, nulls_of, primitives_of, structs_of, unions_of, views_of}
-use Rattle.arrow_meaning.proofs.Physical.{physical_by, physical-by, list_kind}
-use Rattle.column_json.specs.Reads.{data_by, data_in}
+use Rattle.arrow_bytes.specs.FixedSizeBinaries.{declared_size}
+use Rattle.arrow_layout.specs.Layouts.{Layout}
+use Rattle.arrow_layout.specs.Forms.{Form, form_of, binaries_of, booleans_of, dictionaries_of, fixed_size_binaries_of, fixed_size_lists_of, lists_of, no_form, nulls_of, primitives_of, structs_of, unions_of, views_of}
+use Rattle.arrow_layout.proofs.Physical.{physical_by, physical-by, list_kind}
+use Rattle.column_grammar.specs.Reads.{data_by, data_in}
 use Rattle.column_read.specs.Parts.{data_of}
 
 abbrev by_stored : TypeData → Option PhysicalType → Option ℕ → Data → Option Layout
@@ -20,7 +20,7 @@ abbrev size_by : Form → Option ℕ
 size_by (fixed_size_binaries_of k) = Some k
 size_by _ = None
 
-size-by : (t : TypeData) → size_of t ≡ size_by (form_of t)
+size-by : (t : TypeData) → declared_size t ≡ size_by (form_of t)
 size-by (T.fixed_size_binary k) = refl
 size-by (T.list (T.field n t b m)) = refl
 size-by (T.large_list (T.field n t b m)) = refl
@@ -54,7 +54,7 @@ same_by t d (unions_of mode ids fs) = refl
 same_by t d (dictionaries_of k u) = refl
 same_by t d no_form = refl
 
-pub data_stored : (t : TypeData) (d : Data) (stored : Option PhysicalType) (size : Option ℕ) → stored ≡ physical_of t → size ≡ size_of t → data_in t d ≡ by_stored t stored size d
+pub data_stored : (t : TypeData) (d : Data) (stored : Option PhysicalType) (size : Option ℕ) → stored ≡ physical_of t → size ≡ declared_size t → data_in t d ≡ by_stored t stored size d
 data_stored t d stored size e k =
     same_by t d (form_of t)
     ∙ ap (λ o. by_stored t o (size_by (form_of t)) d) (sym (physical-by t) ∙ sym e)

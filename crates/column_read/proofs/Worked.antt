@@ -6,12 +6,12 @@ use Rattle.arrow_buffers.specs.Bits.{plain}
 use Rattle.arrow_types.specs.TypeData as T
 use Rattle.arrow_types.specs.declared.datatype.PrimitiveType.TheVariants as primitive
 use Rattle.arrow_flat.specs.Views.{long, inline}
-use Rattle.arrow_json.specs.Values.{whole_in}
-use Rattle.arrow_json.specs.TypeJson.{named, plain_named, integer_named}
-use Rattle.arrow_meaning.specs.Layouts.{booleans, binaries}
-use Rattle.column_json.specs.Values.{bits_in, mask_in, bytes_in, signed_in, unsigned_in, number_in, list_in, integer_value, list_value}
-use Rattle.column_json.specs.Reads.{booleans_in, binaries_in, view_in, slice_in, column_of}
-use Rattle.column_json.specs.Writes.{object2, object3}
+use Rattle.type_json.specs.Values.{whole_in}
+use Rattle.type_json.specs.TypeJson.{named, plain_named, integer_named}
+use Rattle.arrow_layout.specs.Layouts.{booleans, binaries}
+use Rattle.column_grammar.specs.Values.{bits_in_json, mask_in, bytes_in, signed_in, unsigned_in, number_in, list_in, integer_value, list_value}
+use Rattle.column_grammar.specs.Reads.{booleans_in, binaries_in, view_in, slice_in, column_of}
+use Rattle.column_grammar.specs.Writes.{object2, object3}
 
 -- `{"mask":null,"values":"110"}`
 abbrev three_bits : Data
@@ -23,7 +23,7 @@ one_two = list_value (integer_value (pos 1) ∷ integer_value (pos 2) ∷ [])
 
 sliced_booleans : column_of (object3 (codes "data") three_bits (codes "slice") one_two (codes "type") (string (codes "boolean")))
     ≡ Some record { layout = booleans T.boolean None (plain (true ∷ true ∷ false ∷ [])); slice = Some (1, 2) }
-unfolding column_of slice_in whole_in booleans_in bits_in mask_in named plain_named integer_named
+unfolding column_of slice_in whole_in booleans_in bits_in_json mask_in named plain_named integer_named
 sliced_booleans = refl
 
 -- The order in which keys stand is no matter: members are put in the order of their keys.

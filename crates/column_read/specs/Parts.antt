@@ -9,12 +9,12 @@ use Rattle.arrow_types.specs.declared.datatype.PhysicalType.{PhysicalType}
 use Rattle.arrow_types.specs.declared.datatype.PhysicalType.TheVariants as physical
 use Rattle.arrow_types.specs.declared.datatype.PrimitiveType.{PrimitiveType}
 use Rattle.arrow_types.specs.declared.datatype.PrimitiveType.TheVariants as primitive
-use Rattle.arrow_bytes.specs.FixedSizeBinaries.{size_of}
+use Rattle.arrow_bytes.specs.FixedSizeBinaries.{declared_size}
 use Rattle.arrow_flat.specs.Natives.{signed, unsigned, days_ms, month_day_nano, octets, IsNative}
 use Rattle.arrow_flat.specs.Views.{View, inline_view, long}
-use Rattle.arrow_meaning.specs.Layouts.{Layout, booleans, primitives, binaries, fixed_size_binaries, views}
-use Rattle.column_json.specs.Reads as read
-use Rattle.column_json.specs.Reads.{prefix_of, booleans_in, primitives_in, binaries_in, fixed_size_binaries_in, views_in}
+use Rattle.arrow_layout.specs.Layouts.{Layout, booleans, primitives, binaries, fixed_size_binaries, views}
+use Rattle.column_grammar.specs.Reads as read
+use Rattle.column_grammar.specs.Reads.{prefix_in, booleans_in, primitives_in, binaries_in, fixed_size_binaries_in, views_in}
 use Rattle.column_read.specs.declared.column.Column.{Column}
 use Rattle.column_read.specs.declared.column.ColumnData.{ColumnData}
 use Rattle.column_read.specs.declared.column.ColumnData.TheVariants as column
@@ -44,19 +44,19 @@ abbrev pub fixed_size_binaries_layout : TypeData → FixedSizeBinaryParts → La
 fixed_size_binaries_layout t p = fixed_size_binaries t p.validity p.size (length p.values / p.size) (octets p.values)
 
 abbrev pub long_view_of : List (List ℕ) → LongView → View
-long_view_of buffers v = long v.length (prefix_of buffers v.length v.buffer v.offset) v.buffer v.offset
+long_view_of buffers v = long v.length (prefix_in buffers v.length v.buffer v.offset) v.buffer v.offset
 
 -- The first four of n bytes from o on, zeros where they aren't there.
 abbrev pub four_of : List ℕ → ℕ → ℕ → List ℕ
 four_of bs n o = if nat_le (o + n) (length bs) then take 4 (drop o bs) else replicate 4 0
 
 -- The view of a value that stands in these buffers.
-abbrev pub view_of : List (List ℕ) → RawView → View
-view_of buffers (raw.Inline bs) = inline_view (octets bs.items)
-view_of buffers (raw.Long v) = long_view_of buffers v
+abbrev pub raw_view_of : List (List ℕ) → RawView → View
+raw_view_of buffers (raw.Inline bs) = inline_view (octets bs.items)
+raw_view_of buffers (raw.Long v) = long_view_of buffers v
 
 abbrev pub views_layout : TypeData → ViewParts → Layout
-views_layout t p = views t p.validity (map (view_of (map octets p.buffers.items)) p.views.items) (map octets p.buffers.items)
+views_layout t p = views t p.validity (map (raw_view_of (map octets p.buffers.items)) p.views.items) (map octets p.buffers.items)
 
 abbrev pub numbers_layout : TypeData → PrimitiveData → Layout
 numbers_layout t (numbers.Int8 p) = primitives_layout (signed w8) t p
@@ -82,12 +82,12 @@ data_layout t (column.FixedSizeBinary p) = fixed_size_binaries_layout t p
 data_layout t (column.BinaryView p) = views_layout t p
 data_layout t (column.Utf8View p) = views_layout t p
 
-abbrev pub layout_of : Column → Layout
-layout_of c = data_layout (seen c.dtype) c.data
+abbrev pub column_layout : Column → Layout
+column_layout c = data_layout (seen c.dtype) c.data
 
 -- The column as it is read, its slice beside it.
 abbrev pub column_seen : Column → read.Column
-column_seen c = record { layout = layout_of c; slice = c.slice }
+column_seen c = record { layout = column_layout c; slice = c.slice }
 
 -- ---- that the parts are those of the type
 
@@ -131,7 +131,7 @@ IsReadAs size _ = ⊤
 -- The parts are of the layout of the type.
 pub record HasKind (t : TypeData) (d : ColumnData) : Type 0 where
   pub stored : physical_of t ≡ Some (data_kind d)
-  pub read : IsReadAs (size_of t) d
+  pub read : IsReadAs (declared_size t) d
 
 -- ---- what a value is read as, by the layout of the type and the size that it declares
 

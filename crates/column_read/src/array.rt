@@ -4,7 +4,7 @@ ghost use Rattle.arrow_types.specs.Seen.{seen};
 ghost use Rattle.arrow_types.specs.Types.{physical_of};
 ghost use Rattle.arrow_types.specs.declared.datatype.PhysicalType.TheVariants as physical;
 ghost use Rattle.arrow_meaning.specs.Nodes as node;
-ghost use Rattle.arrow_meaning.specs.WellFormed.{WellFormed};
+ghost use Rattle.arrow_layout.specs.WellFormed.{WellFormed};
 ghost use Rattle.column_read.specs.Parts.{HasKind, data_layout, number_kind, numbers_layout};
 
 use crate::arrays::{
@@ -22,7 +22,7 @@ fn primitive_node(
     numbers: PrimitiveData,
 ) -> Result<PrimitiveNode, LayoutError>
     requires { physical_of (seen dtype) ≡ Some (physical.Primitive (number_kind numbers)) }
-    ensures ok { IfOk result (λ n. node.numbers_of n ≡ numbers_layout (seen dtype) numbers) }
+    ensures ok { IfOk result (λ n. node.primitive_node_layout n ≡ numbers_layout (seen dtype) numbers) }
     ensures bad { IsErrOf result LayoutError.BadLayout → WellFormed (numbers_layout (seen dtype) numbers) → ⊥ }
 {
     match numbers {

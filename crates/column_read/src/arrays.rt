@@ -5,9 +5,9 @@ ghost use Rattle.arrow_types.specs.Seen.{seen};
 ghost use Rattle.arrow_types.specs.Types.{physical_of};
 ghost use Rattle.arrow_types.specs.declared.datatype.PhysicalType.TheVariants as physical;
 ghost use Rattle.arrow_bytes.specs.Binaries as bytes;
-ghost use Rattle.arrow_bytes.specs.FixedSizeBinaries.{size_of};
+ghost use Rattle.arrow_bytes.specs.FixedSizeBinaries.{declared_size};
 ghost use Rattle.arrow_meaning.specs.Nodes as array;
-ghost use Rattle.arrow_meaning.specs.WellFormed.{WellFormed};
+ghost use Rattle.arrow_layout.specs.WellFormed.{WellFormed};
 ghost use Rattle.column_read.specs.Parts.{booleans_layout, primitives_layout, binaries_layout, fixed_size_binaries_layout, AreOctets};
 
 use crate::{BinaryParts, BooleanParts, FixedSizeBinaryParts, LayoutError, PrimitiveParts};
@@ -48,7 +48,7 @@ pub fn fixed_size_binary_array(
     dtype: ArrowDataType,
     parts: FixedSizeBinaryParts,
 ) -> Result<FixedSizeBinaryArray, LayoutError>
-    requires { size_of (seen dtype) ≡ Some parts.size }
+    requires { declared_size (seen dtype) ≡ Some parts.size }
     ensures ok { IfOk result (λ a. array.fixed_size_binary_layout a ≡ fixed_size_binaries_layout (seen dtype) parts) }
     ensures bad { IsErrOf result LayoutError.BadLayout → WellFormed (fixed_size_binaries_layout (seen dtype) parts) → ⊥ }
 {
@@ -73,7 +73,7 @@ pub fn binary_array<O: Offset>(
     dtype: ArrowDataType,
     parts: BinaryParts<O>,
 ) -> Result<BinaryArray<O>, LayoutError>
-    requires { physical_of (seen dtype) ≡ Some (bytes.binary_layout O.IS_LARGE) }
+    requires { physical_of (seen dtype) ≡ Some (bytes.physical_binary O.IS_LARGE) }
     ensures ok { IfOk result (λ a. array.binary_layout O.number a ≡ binaries_layout O.number (seen dtype) parts) }
     ensures bad { IsErrOf result LayoutError.BadLayout → WellFormed (binaries_layout O.number (seen dtype) parts) → ⊥ }
 {
@@ -91,7 +91,7 @@ pub fn text_array<O: Offset>(
     dtype: ArrowDataType,
     parts: BinaryParts<O>,
 ) -> Result<Utf8Array<O>, LayoutError>
-    requires stored { physical_of (seen dtype) ≡ Some (bytes.text_layout O.IS_LARGE) }
+    requires stored { physical_of (seen dtype) ≡ Some (bytes.physical_utf8 O.IS_LARGE) }
     requires octets { AreOctets parts.values }
     ensures ok { IfOk result (λ a. array.binary_layout O.number a ≡ binaries_layout O.number (seen dtype) parts) }
     ensures bad { IsErrOf result LayoutError.BadLayout → WellFormed (binaries_layout O.number (seen dtype) parts) → ⊥ }

@@ -2,8 +2,8 @@
 ghost use Rattle.std.specs.Prelude.{◌≡◌, option_map, Some, None, IfOk, IsErrOf};
 ghost use Rattle.serde_json.specs.View.{view};
 ghost use Rattle.arrow_types.specs.declared.datatype.PrimitiveType.TheVariants as primitive;
-ghost use Rattle.column_json.specs.Reads.{offset_bits};
-ghost use Rattle.column_json.specs.Values.{signed_in, number_in};
+ghost use Rattle.column_grammar.specs.Reads.{offset_bits};
+ghost use Rattle.column_grammar.specs.Values.{signed_in, number_in};
 
 use crate::JobError;
 use crate::numbers::{

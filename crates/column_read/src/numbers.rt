@@ -4,7 +4,7 @@ ghost use Rattle.std.specs.Int.{w8, w16, w32, w64, w128};
 ghost use Rattle.serde_json.specs.View.{view};
 ghost use Rattle.arrow_flat.specs.Natives.{signed, unsigned, days_ms, month_day_nano};
 ghost use Rattle.arrow_types.specs.declared.datatype.PrimitiveType.TheVariants as primitive;
-ghost use Rattle.column_json.specs.Values.{signed_in, unsigned_in, number_in, int128_of};
+ghost use Rattle.column_grammar.specs.Values.{signed_in, unsigned_in, number_in, int128_of};
 
 use crate::JobError;
 use crate::values::{bytes_in, pair_in, triple_in};
@@ -13,7 +13,7 @@ use serde_json::Value;
 use std::alloc::Global;
 
 /// The number of 8 bits and a sign that a value is.
-#[tactic(auto, unfolding(column_json::specs::Values::signed_in, column_json::specs::Values::number_in))]
+#[tactic(auto, unfolding(column_grammar::specs::Values::signed_in, column_grammar::specs::Values::number_in))]
 pub fn int8_in(value: &Value) -> Option<i8>
     ensures { option_map (signed w8) result ≡ number_in primitive.Int8 (view value.now) }
 {
@@ -26,7 +26,7 @@ pub fn int8_in(value: &Value) -> Option<i8>
 }
 
 /// The number of 16 bits and a sign that a value is.
-#[tactic(auto, unfolding(column_json::specs::Values::signed_in, column_json::specs::Values::number_in))]
+#[tactic(auto, unfolding(column_grammar::specs::Values::signed_in, column_grammar::specs::Values::number_in))]
 pub fn int16_in(value: &Value) -> Option<i16>
     ensures { option_map (signed w16) result ≡ number_in primitive.Int16 (view value.now) }
 {
@@ -39,7 +39,7 @@ pub fn int16_in(value: &Value) -> Option<i16>
 }
 
 /// The number of 32 bits and a sign that a value is.
-#[tactic(auto, unfolding(column_json::specs::Values::signed_in, column_json::specs::Values::number_in))]
+#[tactic(auto, unfolding(column_grammar::specs::Values::signed_in, column_grammar::specs::Values::number_in))]
 pub fn int32_in(value: &Value) -> Option<i32>
     ensures number { result ≡ signed_in 31 (view value.now) }
     ensures parts { option_map (signed w32) result ≡ number_in primitive.Int32 (view value.now) }
@@ -53,7 +53,7 @@ pub fn int32_in(value: &Value) -> Option<i32>
 }
 
 /// The number of 64 bits and a sign that a value is.
-#[tactic(auto, unfolding(column_json::specs::Values::signed_in, column_json::specs::Values::number_in))]
+#[tactic(auto, unfolding(column_grammar::specs::Values::signed_in, column_grammar::specs::Values::number_in))]
 pub fn int64_in(value: &Value) -> Option<i64>
     ensures number { result ≡ signed_in 63 (view value.now) }
     ensures parts { option_map (signed w64) result ≡ number_in primitive.Int64 (view value.now) }
@@ -62,7 +62,7 @@ pub fn int64_in(value: &Value) -> Option<i64>
 }
 
 /// The number of 8 bits that a value is.
-#[tactic(auto, unfolding(column_json::specs::Values::unsigned_in, column_json::specs::Values::number_in))]
+#[tactic(auto, unfolding(column_grammar::specs::Values::unsigned_in, column_grammar::specs::Values::number_in))]
 pub fn uint8_in(value: &Value) -> Option<u8>
     ensures { option_map (unsigned 8) result ≡ number_in primitive.UInt8 (view value.now) }
 {
@@ -71,7 +71,7 @@ pub fn uint8_in(value: &Value) -> Option<u8>
 }
 
 /// The number of 16 bits that a value is.
-#[tactic(auto, unfolding(column_json::specs::Values::unsigned_in, column_json::specs::Values::number_in))]
+#[tactic(auto, unfolding(column_grammar::specs::Values::unsigned_in, column_grammar::specs::Values::number_in))]
 pub fn uint16_in(value: &Value) -> Option<u16>
     ensures { option_map (unsigned 16) result ≡ number_in primitive.UInt16 (view value.now) }
 {
@@ -84,7 +84,7 @@ pub fn uint16_in(value: &Value) -> Option<u16>
 }
 
 /// The number of 32 bits that a value is.
-#[tactic(auto, unfolding(column_json::specs::Values::unsigned_in, column_json::specs::Values::number_in))]
+#[tactic(auto, unfolding(column_grammar::specs::Values::unsigned_in, column_grammar::specs::Values::number_in))]
 pub fn uint32_in(value: &Value) -> Option<u32>
     ensures number { option_map pos result ≡ unsigned_in 32 (view value.now) }
     ensures parts { option_map (unsigned 32) result ≡ number_in primitive.UInt32 (view value.now) }
@@ -98,7 +98,7 @@ pub fn uint32_in(value: &Value) -> Option<u32>
 }
 
 /// The number of 64 bits that a value is.
-#[tactic(auto, unfolding(column_json::specs::Values::unsigned_in, column_json::specs::Values::number_in))]
+#[tactic(auto, unfolding(column_grammar::specs::Values::unsigned_in, column_grammar::specs::Values::number_in))]
 pub fn uint64_in(value: &Value) -> Option<u64>
     ensures { option_map (unsigned 64) result ≡ number_in primitive.UInt64 (view value.now) }
 {
@@ -116,7 +116,7 @@ fn int128_of(bytes: &[u8]) -> Option<i128>
 }
 
 /// The number of 128 bits and a sign that a value is: a text of sixteen bytes.
-#[tactic(auto, unfolding(column_json::specs::Values::number_in))]
+#[tactic(auto, unfolding(column_grammar::specs::Values::number_in))]
 pub fn int128_in(alloc: Global, value: &Value) -> Result<i128, JobError>
     ensures ok { IfOk result (λ x. number_in primitive.Int128 (view value.now) ≡ Some (signed w128 x)) }
     ensures bad { IsErrOf result JobError.BadJob → number_in primitive.Int128 (view value.now) ≡ None }
@@ -129,7 +129,7 @@ pub fn int128_in(alloc: Global, value: &Value) -> Result<i128, JobError>
 }
 
 /// The days and milliseconds that a value is.
-#[tactic(auto, unfolding(column_json::specs::Values::number_in))]
+#[tactic(auto, unfolding(column_grammar::specs::Values::number_in))]
 pub fn days_ms_in(value: &Value) -> Option<DaysMs>
     ensures { option_map days_ms result ≡ number_in primitive.DaysMs (view value.now) }
 {
@@ -140,7 +140,7 @@ pub fn days_ms_in(value: &Value) -> Option<DaysMs>
 }
 
 /// The months, days and nanoseconds that a value is.
-#[tactic(auto, unfolding(column_json::specs::Values::number_in))]
+#[tactic(auto, unfolding(column_grammar::specs::Values::number_in))]
 pub fn month_day_nano_in(value: &Value) -> Option<MonthDayNano>
     ensures { option_map month_day_nano result ≡ number_in primitive.MonthDayNano (view value.now) }
 {

@@ -6,10 +6,10 @@ ghost use Rattle.arrow_types.specs.TypeData.{TypeData};
 ghost use Rattle.arrow_types.specs.Types.{physical_of};
 ghost use Rattle.arrow_types.specs.declared.datatype.PhysicalType.TheVariants as physical;
 ghost use Rattle.arrow_flat.specs.Natives.{octets, IsNative};
-ghost use Rattle.arrow_json.specs.Values.{traverse};
-ghost use Rattle.arrow_json.specs.TypeJson.{type_in};
-ghost use Rattle.column_json.specs.Values.{bytes_in, number_in, list_in, signed_in};
-ghost use Rattle.column_json.specs.Reads.{offset_bits, booleans_in, primitives_in, binaries_in, fixed_size_binaries_in, views_in, data_in, column_from, column_of};
+ghost use Rattle.type_json.specs.Values.{traverse};
+ghost use Rattle.type_json.specs.TypeJson.{type_in};
+ghost use Rattle.column_grammar.specs.Values.{bytes_in, number_in, list_in, signed_in};
+ghost use Rattle.column_grammar.specs.Reads.{offset_bits, booleans_in, primitives_in, binaries_in, fixed_size_binaries_in, views_in, data_in, column_from, column_of};
 ghost use Rattle.column_read.specs.Parts.{booleans_layout, primitives_layout, binaries_layout, fixed_size_binaries_layout, numbers_layout, data_layout, number_kind, data_kind, data_of, sized_of, IsNativeLayout, IsNativeStored, column_seen, IsReadAs, HasKind, AreOctets};
 
 use crate::values::{bits_in, bytes_in, items, mask_in, slice_in, three_members, two_members};
@@ -20,10 +20,10 @@ use crate::{
 };
 use arrow_buffers::Buffer;
 use arrow_bytes::size_of_values;
-use arrow_json::{JsonError, type_of};
 use arrow_types::{ArrowDataType, PhysicalType, PrimitiveType};
 use serde_json::Value;
 use std::alloc::Global;
+use type_json::{JsonError, type_of};
 
 /// The offsets of a list of values.
 fn offset_list<O: ReadOffset>(alloc: Global, list: &[Value]) -> Result<Vec<O>, JobError>
@@ -53,7 +53,7 @@ fn value_list<T: ReadNative>(alloc: Global, list: &[Value]) -> Result<Vec<T>, Jo
 }
 
 /// The offsets that a value is: a list of numbers.
-#[tactic(auto, unfolding(column_json::specs::Values::list_in))]
+#[tactic(auto, unfolding(column_grammar::specs::Values::list_in))]
 fn offsets_in<O: ReadOffset>(alloc: Global, value: &Value) -> Result<Vec<O>, JobError>
     ensures ok { IfOk result (λ v. list_in (signed_in (offset_bits O.IS_LARGE)) (view value.now) ≡ Some (map O.number v.items)) }
     ensures bad { IsErrOf result JobError.BadJob → list_in (signed_in (offset_bits O.IS_LARGE)) (view value.now) ≡ None }
@@ -65,7 +65,7 @@ fn offsets_in<O: ReadOffset>(alloc: Global, value: &Value) -> Result<Vec<O>, Job
 }
 
 /// The values of a type that a value is: a list of them.
-#[tactic(auto, unfolding(column_json::specs::Values::list_in))]
+#[tactic(auto, unfolding(column_grammar::specs::Values::list_in))]
 fn values_in<T: ReadNative>(alloc: Global, value: &Value) -> Result<Vec<T>, JobError>
     ensures ok { IfOk result (λ v. list_in (number_in T.PRIMITIVE) (view value.now) ≡ Some (map T.parts v.items)) }
     ensures bad { IsErrOf result JobError.BadJob → list_in (number_in T.PRIMITIVE) (view value.now) ≡ None }
@@ -77,7 +77,7 @@ fn values_in<T: ReadNative>(alloc: Global, value: &Value) -> Result<Vec<T>, JobE
 }
 
 /// Bits under a mask.
-#[tactic(auto, unfolding(column_json::specs::Reads::booleans_in))]
+#[tactic(auto, unfolding(column_grammar::specs::Reads::booleans_in))]
 fn booleans_in(alloc: Global, value: &Value) -> Result<BooleanParts, JobError>
     ensures ok { IfOk result (λ p. (t : TypeData) → booleans_in t (view value.now) ≡ Some (booleans_layout t p)) }
     ensures bad { IsErrOf result JobError.BadJob → (t : TypeData) → booleans_in t (view value.now) ≡ None }
@@ -91,7 +91,7 @@ fn booleans_in(alloc: Global, value: &Value) -> Result<BooleanParts, JobError>
 }
 
 /// Values of fixed width under a mask.
-#[tactic(auto, unfolding(column_json::specs::Reads::primitives_in))]
+#[tactic(auto, unfolding(column_grammar::specs::Reads::primitives_in))]
 fn primitives_in<T: ReadNative>(alloc: Global, value: &Value) -> Result<PrimitiveParts<T>, JobError>
     ensures ok { IfOk result (λ p. (t : TypeData) → primitives_in t T.PRIMITIVE (view value.now) ≡ Some (primitives_layout T.parts t p)) }
     ensures bad { IsErrOf result JobError.BadJob → (t : TypeData) → primitives_in t T.PRIMITIVE (view value.now) ≡ None }
@@ -106,7 +106,7 @@ fn primitives_in<T: ReadNative>(alloc: Global, value: &Value) -> Result<Primitiv
 }
 
 /// Byte strings or texts under a mask.
-#[tactic(auto, unfolding(column_json::specs::Reads::binaries_in))]
+#[tactic(auto, unfolding(column_grammar::specs::Reads::binaries_in))]
 fn binaries_in<O: ReadOffset>(alloc: Global, value: &Value) -> Result<BinaryParts<O>, JobError>
     ensures octets { IfOk result (λ p. AreOctets p.values) }
     ensures ok { IfOk result (λ p. (t : TypeData) → binaries_in t O.IS_LARGE (view value.now) ≡ Some (binaries_layout O.number t p)) }
@@ -127,7 +127,7 @@ fn binaries_in<O: ReadOffset>(alloc: Global, value: &Value) -> Result<BinaryPart
 }
 
 /// Byte strings of one size under a mask.
-#[tactic(auto, unfolding(column_json::specs::Reads::fixed_size_binaries_in))]
+#[tactic(auto, unfolding(column_grammar::specs::Reads::fixed_size_binaries_in))]
 fn fixed_size_binaries_in(
     alloc: Global,
     size: usize,
@@ -260,7 +260,7 @@ fn column_from(
 
 /// The column that a value is, its parts fitting or not: an object of data and a type, with a slice beside them or not. BadJob
 /// exactly where it isn't in the grammar.
-#[tactic(auto, unfolding(column_json::specs::Reads::column_of))]
+#[tactic(auto, unfolding(column_grammar::specs::Reads::column_of))]
 pub fn column_of(alloc: Global, value: &Value) -> Result<Column, JobError>
     ensures kind { IfOk result (λ c. HasKind (seen c.dtype) c.data) }
     ensures ok { IfOk result (λ c. column_of (view value.now) ≡ Some (column_seen c)) }

@@ -2,16 +2,16 @@
 ghost use Rattle.std.specs.Prelude.{◌≡◌, ◌<◌, map, option_map, option_and_then, Some, None, IfOk, IsErrOf};
 ghost use Rattle.serde_json.specs.View.{view};
 ghost use Rattle.arrow_flat.specs.Natives.{octets};
-ghost use Rattle.arrow_json.specs.Values.{traverse, two_members, three_members};
-ghost use Rattle.column_json.specs.Values.{bit_of, bits_in, mask_in, bytes_in, items_in, pair_of, triple_of};
-ghost use Rattle.column_json.specs.Reads.{slice_in};
+ghost use Rattle.type_json.specs.Values.{traverse, two_members, three_members};
+ghost use Rattle.column_grammar.specs.Values.{bit_of_digit, bits_in_json, mask_in, bytes_in, items_in, pair_of, triple_of};
+ghost use Rattle.column_grammar.specs.Reads.{slice_in};
 
 use crate::JobError;
 use arrow_buffers::Bitmap;
-use arrow_json::whole_in;
 use hex::FromHexError;
 use serde_json::Value;
 use std::alloc::Global;
+use type_json::whole_in;
 
 /// The values at two keys, of an object that has no other key.
 pub fn two_members<'v>(
@@ -82,7 +82,7 @@ pub fn triple_in(value: &Value) -> Option<(&Value, &Value, &Value)>
 
 /// The bit of a character `0` or `1`.
 fn bit_of(byte: u8) -> Option<bool>
-    ensures { result ≡ bit_of byte }
+    ensures { result ≡ bit_of_digit byte }
 {
     match byte {
         b'1' => Some(true),
@@ -93,8 +93,8 @@ fn bit_of(byte: u8) -> Option<bool>
 
 /// The bits of a text of `0` and `1`.
 fn bits_of(alloc: Global, text: &[u8]) -> Result<Vec<bool>, JobError>
-    ensures ok { IfOk result (λ bits. traverse bit_of text.now ≡ Some bits.items) }
-    ensures bad { IsErrOf result JobError.BadJob → traverse bit_of text.now ≡ None }
+    ensures ok { IfOk result (λ bits. traverse bit_of_digit text.now ≡ Some bits.items) }
+    ensures bad { IsErrOf result JobError.BadJob → traverse bit_of_digit text.now ≡ None }
 {
     let mut bits = Vec::with_capacity(alloc, text.len())?;
     for byte in text {
@@ -107,10 +107,10 @@ fn bits_of(alloc: Global, text: &[u8]) -> Result<Vec<bool>, JobError>
 }
 
 /// The bits that a value is: a text of `0` and `1`. BadJob exactly where it is none.
-#[tactic(auto, unfolding(column_json::specs::Values::bits_in))]
+#[tactic(auto, unfolding(column_grammar::specs::Values::bits_in_json))]
 pub fn bits_in(alloc: Global, value: &Value) -> Result<Bitmap, JobError>
-    ensures ok { IfOk result (λ b. bits_in (view value.now) ≡ Some b) }
-    ensures bad { IsErrOf result JobError.BadJob → bits_in (view value.now) ≡ None }
+    ensures ok { IfOk result (λ b. bits_in_json (view value.now) ≡ Some b) }
+    ensures bad { IsErrOf result JobError.BadJob → bits_in_json (view value.now) ≡ None }
 {
     let Some(text) = value.as_str() else {
         return Err(JobError::BadJob);
@@ -120,7 +120,7 @@ pub fn bits_in(alloc: Global, value: &Value) -> Result<Bitmap, JobError>
 }
 
 /// The mask that a value is: null, or a text of `0` and `1`. BadJob exactly where it is none.
-#[tactic(auto, unfolding(column_json::specs::Values::mask_in))]
+#[tactic(auto, unfolding(column_grammar::specs::Values::mask_in))]
 pub fn mask_in(alloc: Global, value: &Value) -> Result<Option<Bitmap>, JobError>
     ensures ok { IfOk result (λ m. mask_in (view value.now) ≡ Some m) }
     ensures bad { IsErrOf result JobError.BadJob → mask_in (view value.now) ≡ None }
@@ -133,7 +133,7 @@ pub fn mask_in(alloc: Global, value: &Value) -> Result<Option<Bitmap>, JobError>
 }
 
 /// The bytes that a value is: a text of two hexadecimal digits a byte, in both cases. BadJob exactly where it is none.
-#[tactic(auto, using(crate::proofs::Octets::octets_decoded), unfolding(column_json::specs::Values::bytes_in))]
+#[tactic(auto, using(crate::proofs::Octets::octets_decoded), unfolding(column_grammar::specs::Values::bytes_in))]
 pub fn bytes_in(alloc: Global, value: &Value) -> Result<Vec<u8>, JobError>
     ensures ok { IfOk result (λ bs. bytes_in (view value.now) ≡ Some bs.items) }
     ensures octets { IfOk result (λ bs. octets bs.items ≡ bs.items) }
@@ -150,7 +150,7 @@ pub fn bytes_in(alloc: Global, value: &Value) -> Result<Vec<u8>, JobError>
 }
 
 /// The offset and the length that a value is: a list of the two.
-#[tactic(auto, unfolding(column_json::specs::Reads::slice_in))]
+#[tactic(auto, unfolding(column_grammar::specs::Reads::slice_in))]
 pub fn slice_in(value: &Value) -> Option<(usize, usize)>
     ensures { result ≡ slice_in (view value.now) }
 {

@@ -5,11 +5,11 @@ ghost use Rattle.arrow_types.specs.Seen.{seen};
 ghost use Rattle.arrow_types.specs.Types.{physical_of};
 ghost use Rattle.arrow_flat.specs.Natives.{octets};
 ghost use Rattle.arrow_flat.specs.Views.{IsView, inline_view};
-ghost use Rattle.arrow_views.specs.ViewArrays.{view_layout};
+ghost use Rattle.arrow_views.specs.ViewArrays.{physical_view};
 ghost use Rattle.arrow_meaning.specs.Nodes as array;
-ghost use Rattle.arrow_meaning.specs.WellFormed.{WellFormed};
-ghost use Rattle.column_json.specs.Reads.{prefix_of};
-ghost use Rattle.column_read.specs.Parts.{four_of, long_view_of, view_of, views_layout};
+ghost use Rattle.arrow_layout.specs.WellFormed.{WellFormed};
+ghost use Rattle.column_grammar.specs.Reads.{prefix_in};
+ghost use Rattle.column_read.specs.Parts.{four_of, long_view_of, raw_view_of, views_layout};
 
 use crate::{LayoutError, LongView, RawView, ViewParts};
 use arrow_buffers::Buffer;
@@ -42,7 +42,7 @@ fn first_four(bytes: &[u8], length: usize, offset: usize) -> [u8; 4]
 /// The first four bytes of a range of a buffer, zeros where the range isn't there.
 fn prefix_of(buffers: &[Buffer<u8>], view: LongView) -> [u8; 4]
     requires { 12 < view.length }
-    ensures { result ≡ prefix_of (map octets buffers.now) view.length view.buffer view.offset }
+    ensures { result ≡ prefix_in (map octets buffers.now) view.length view.buffer view.offset }
 {
     match buffers.get(view.buffer as usize) {
         Some(buffer) => first_four(
@@ -77,8 +77,8 @@ fn long_view(buffers: &[Buffer<u8>], view: LongView) -> Option<View>
 
 /// The view of a value that stands in these buffers; None where no view stands for it.
 fn view_of(buffers: &[Buffer<u8>], raw: &RawView) -> Option<View>
-    ensures { MatchOption result (IsView (map octets buffers.now) (view_of (map octets buffers.now) raw.now) → ⊥)
-        (λ v. v ≡ view_of (map octets buffers.now) raw.now) }
+    ensures { MatchOption result (IsView (map octets buffers.now) (raw_view_of (map octets buffers.now) raw.now) → ⊥)
+        (λ v. v ≡ raw_view_of (map octets buffers.now) raw.now) }
 {
     match raw {
         RawView::Inline(bytes) => inline_view(bytes.as_slice()),
@@ -92,8 +92,8 @@ fn views_of(
     buffers: &[Buffer<u8>],
     raws: &[RawView],
 ) -> Result<Vec<View>, LayoutError>
-    ensures ok { IfOk result (λ v. v.items ≡ map (view_of (map octets buffers.now)) raws.now) }
-    ensures bad { IsErrOf result LayoutError.BadLayout → AllByRecursion (IsView (map octets buffers.now)) (map (view_of (map octets buffers.now)) raws.now) → ⊥ }
+    ensures ok { IfOk result (λ v. v.items ≡ map (raw_view_of (map octets buffers.now)) raws.now) }
+    ensures bad { IsErrOf result LayoutError.BadLayout → AllByRecursion (IsView (map octets buffers.now)) (map (raw_view_of (map octets buffers.now)) raws.now) → ⊥ }
 {
     let mut views = Vec::with_capacity(alloc, raws.len())?;
     for raw in raws {
@@ -111,7 +111,7 @@ pub fn view_array<T: ViewType>(
     dtype: ArrowDataType,
     parts: ViewParts,
 ) -> Result<BinaryViewArrayGeneric<T>, LayoutError>
-    requires { physical_of (seen dtype) ≡ Some (view_layout T.IS_TEXT) }
+    requires { physical_of (seen dtype) ≡ Some (physical_view T.IS_TEXT) }
     ensures ok { IfOk result (λ a. array.view_layout a ≡ views_layout (seen dtype) parts) }
     ensures bad { IsErrOf result LayoutError.BadLayout → WellFormed (views_layout (seen dtype) parts) → ⊥ }
 {

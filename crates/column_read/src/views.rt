@@ -3,10 +3,10 @@ ghost use Rattle.std.specs.Prelude.{◌≡◌, ℕ, List, map, option_map, optio
 ghost use Rattle.serde_json.specs.View.{view};
 ghost use Rattle.arrow_types.specs.TypeData.{TypeData};
 ghost use Rattle.arrow_flat.specs.Natives.{octets};
-ghost use Rattle.arrow_json.specs.Values.{traverse};
-ghost use Rattle.column_json.specs.Values.{bytes_in, list_in};
-ghost use Rattle.column_json.specs.Reads.{inline_of, long_in, view_in, views_in};
-ghost use Rattle.column_read.specs.Parts.{view_of, long_view_of, views_layout};
+ghost use Rattle.type_json.specs.Values.{traverse};
+ghost use Rattle.column_grammar.specs.Values.{bytes_in, list_in};
+ghost use Rattle.column_grammar.specs.Reads.{inline_of, long_in, view_in, views_in};
+ghost use Rattle.column_read.specs.Parts.{raw_view_of, long_view_of, views_layout};
 
 use crate::numbers::uint32_in;
 use crate::values::{bytes_in, items, mask_in, three_members, triple_in};
@@ -17,7 +17,7 @@ use std::alloc::Global;
 
 /// A value of at most twelve bytes.
 fn inline_in(alloc: Global, value: &Value) -> Result<RawView, JobError>
-    ensures ok { IfOk result (λ v. (buffers : List (List ℕ)) → option_and_then inline_of (bytes_in (view value.now)) ≡ Some (view_of buffers v)) }
+    ensures ok { IfOk result (λ v. (buffers : List (List ℕ)) → option_and_then inline_of (bytes_in (view value.now)) ≡ Some (raw_view_of buffers v)) }
     ensures bad { IsErrOf result JobError.BadJob → option_and_then inline_of (bytes_in (view value.now)) ≡ None }
 {
     let bytes = bytes_in(alloc, value)?;
@@ -47,9 +47,9 @@ fn long_in(value: &Value) -> Option<LongView>
 }
 
 /// The view that a value is: a text of at most twelve bytes, or a list of a length, a buffer and an offset.
-#[tactic(auto, unfolding(column_json::specs::Reads::view_in))]
+#[tactic(auto, unfolding(column_grammar::specs::Reads::view_in))]
 fn view_in(alloc: Global, value: &Value) -> Result<RawView, JobError>
-    ensures ok { IfOk result (λ v. (buffers : List (List ℕ)) → view_in buffers (view value.now) ≡ Some (view_of buffers v)) }
+    ensures ok { IfOk result (λ v. (buffers : List (List ℕ)) → view_in buffers (view value.now) ≡ Some (raw_view_of buffers v)) }
     ensures bad { IsErrOf result JobError.BadJob → (buffers : List (List ℕ)) → view_in buffers (view value.now) ≡ None }
 {
     if value.is_string() {
@@ -63,7 +63,7 @@ fn view_in(alloc: Global, value: &Value) -> Result<RawView, JobError>
 
 /// The views of a list of values.
 fn view_list(alloc: Global, list: &[Value]) -> Result<Vec<RawView>, JobError>
-    ensures ok { IfOk result (λ v. (buffers : List (List ℕ)) → traverse (view_in buffers) (map view list.now) ≡ Some (map (view_of buffers) v.items)) }
+    ensures ok { IfOk result (λ v. (buffers : List (List ℕ)) → traverse (view_in buffers) (map view list.now) ≡ Some (map (raw_view_of buffers) v.items)) }
     ensures bad { IsErrOf result JobError.BadJob → (buffers : List (List ℕ)) → traverse (view_in buffers) (map view list.now) ≡ None }
 {
     let mut views = Vec::new(alloc);
@@ -87,9 +87,9 @@ fn buffer_list(alloc: Global, list: &[Value]) -> Result<Vec<Buffer<u8>>, JobErro
 }
 
 /// The views that a value is: a list of them.
-#[tactic(auto, unfolding(column_json::specs::Values::list_in))]
+#[tactic(auto, unfolding(column_grammar::specs::Values::list_in))]
 fn raw_views_in(alloc: Global, value: &Value) -> Result<Vec<RawView>, JobError>
-    ensures ok { IfOk result (λ v. (buffers : List (List ℕ)) → list_in (view_in buffers) (view value.now) ≡ Some (map (view_of buffers) v.items)) }
+    ensures ok { IfOk result (λ v. (buffers : List (List ℕ)) → list_in (view_in buffers) (view value.now) ≡ Some (map (raw_view_of buffers) v.items)) }
     ensures bad { IsErrOf result JobError.BadJob → (buffers : List (List ℕ)) → list_in (view_in buffers) (view value.now) ≡ None }
 {
     match items(value) {
@@ -99,7 +99,7 @@ fn raw_views_in(alloc: Global, value: &Value) -> Result<Vec<RawView>, JobError>
 }
 
 /// The bytes of the buffers that a value is: a list of texts.
-#[tactic(auto, unfolding(column_json::specs::Values::list_in))]
+#[tactic(auto, unfolding(column_grammar::specs::Values::list_in))]
 fn buffers_in(alloc: Global, value: &Value) -> Result<Vec<Buffer<u8>>, JobError>
     ensures ok { IfOk result (λ v. list_in bytes_in (view value.now) ≡ Some (map octets v.items)) }
     ensures bad { IsErrOf result JobError.BadJob → list_in bytes_in (view value.now) ≡ None }
@@ -111,7 +111,7 @@ fn buffers_in(alloc: Global, value: &Value) -> Result<Vec<Buffer<u8>>, JobError>
 }
 
 /// Byte strings or texts under a mask, short ones in place and long ones in buffers.
-#[tactic(auto, unfolding(column_json::specs::Reads::views_in))]
+#[tactic(auto, unfolding(column_grammar::specs::Reads::views_in))]
 pub fn views_in(alloc: Global, value: &Value) -> Result<ViewParts, JobError>
     ensures ok { IfOk result (λ p. (t : TypeData) → views_in t (view value.now) ≡ Some (views_layout t p)) }
     ensures bad { IsErrOf result JobError.BadJob → (t : TypeData) → views_in t (view value.now) ≡ None }

@@ -3,7 +3,7 @@ use Rattle.std.proofs.Common.{◌≡◌, ◌<◌, ◌≤◌, ℕ, refl, sym, sub
 use Rattle.std.specs.Prelude.{Bool, nat_le, Decides}
 use Rattle.arrow_types.specs.Depth.{depth_of}
 use Rattle.arrow_types.specs.TypeData.{TypeData}
-use Rattle.arrow_meaning.specs.Layouts.{type_of}
+use Rattle.arrow_layout.specs.Layouts.{type_of}
 use Rattle.column_read.specs.Parts.{data_layout, numbers_layout}
 use Rattle.column_read.specs.declared.column.ColumnData.{ColumnData}
 use Rattle.column_read.specs.declared.column.ColumnData.TheVariants as column

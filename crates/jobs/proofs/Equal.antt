@@ -6,20 +6,20 @@ use Rattle.arrow_buffers.specs.Bits.{plain}
 use Rattle.arrow_types.specs.Depth.{depth_of}
 use Rattle.arrow_types.specs.TypeData.{TypeData}
 use Rattle.arrow_flat.specs.Slots.{Slot, is_valid}
-use Rattle.arrow_json.specs.TypeJson.{HasTexts}
-use Rattle.arrow_meaning.specs.Forms.{Form, booleans_of, primitives_of, binaries_of, fixed_size_binaries_of, views_of, form_of}
-use Rattle.arrow_meaning.specs.Layouts.{type_of}
-use Rattle.arrow_meaning.specs.SlotsOf.{HasSlots}
-use Rattle.arrow_meaning.specs.Denote.{denote}
-use Rattle.arrow_meaning.specs.Canon.{canon, mask_of}
-use Rattle.arrow_meaning.specs.Fits.{Fits, Small}
-use Rattle.arrow_meaning.specs.Plain.{IsPlainMask, IsPlain}
-use Rattle.arrow_meaning.proofs.ByForm.{canon_by, canon-form, type-canon}
-use Rattle.arrow_meaning.proofs.CanonForms.{canon_well_formed}
-use Rattle.arrow_meaning.proofs.Denotes.{denote_canon}
-use Rattle.column_json.specs.Laws.{IsRead, IsWritable, HasTypeText}
-use Rattle.column_json.specs.Writes.{column_text}
-use Rattle.column_json.proofs.TextBack.{text_tells}
+use Rattle.type_json.specs.TypeJson.{HasTexts}
+use Rattle.arrow_layout.specs.Forms.{Form, booleans_of, primitives_of, binaries_of, fixed_size_binaries_of, views_of, form_of}
+use Rattle.arrow_layout.specs.Layouts.{type_of}
+use Rattle.arrow_layout.specs.SlotsOf.{HasSlots}
+use Rattle.arrow_layout.specs.Denote.{denote}
+use Rattle.arrow_layout.specs.Canon.{canon, mask_of}
+use Rattle.arrow_layout.specs.Fits.{Fits, Small}
+use Rattle.arrow_layout.specs.Plain.{IsPlainMask, IsPlain}
+use Rattle.arrow_layout.proofs.ByForm.{canon_by, canon-form, type-canon}
+use Rattle.arrow_layout.proofs.CanonForms.{canon_well_formed}
+use Rattle.arrow_layout.proofs.Denotes.{denote_canon}
+use Rattle.column_grammar.specs.Laws.{HasJsonForm, IsWritable, HasTypeText}
+use Rattle.column_grammar.specs.Writes.{column_text}
+use Rattle.column_grammar.proofs.TextBack.{text_tells}
 use Rattle.jobs.specs.Laws.{IsTaken}
 
 mask_plain : (b : Bool) (bits : List Bool) → IsPlainMask (cond b None (Some (plain bits)))
@@ -29,7 +29,7 @@ mask_plain false bits = refl
 slots_plain : (s : List Slot) → IsPlainMask (mask_of s)
 slots_plain s = mask_plain (list_all is_valid s) (map is_valid s)
 
-plain_by : (t : TypeData) (f : Form) (s : List Slot) → IsRead f → IsPlain (canon_by t f s)
+plain_by : (t : TypeData) (f : Form) (s : List Slot) → HasJsonForm f → IsPlain (canon_by t f s)
 plain_by t booleans_of s h = (slots_plain s, refl)
 plain_by t (primitives_of p) s h = slots_plain s
 plain_by t (binaries_of large text) s h = slots_plain s
@@ -37,7 +37,7 @@ plain_by t (fixed_size_binaries_of k) s h = slots_plain s
 plain_by t (views_of text) s h = slots_plain s
 plain_by t _ s h = absurd h
 
-small_by : (t : TypeData) (f : Form) (s : List Slot) → IsRead f → Small (canon_by t f s)
+small_by : (t : TypeData) (f : Form) (s : List Slot) → HasJsonForm f → Small (canon_by t f s)
 small_by t booleans_of s h = tt
 small_by t (primitives_of p) s h = tt
 small_by t (binaries_of large text) s h = tt
@@ -55,7 +55,7 @@ module _ (t : TypeData) (s : List Slot) (taken : IsTaken t) where
   writable : HasSlots t s → Fits (canon t s) → IsWritable (canon t s)
   writable h fits = record {
     well_formed = canon_well_formed t s taken.carried h fits small_canon;
-    read = subst (λ u. IsRead (form_of u)) (sym (type-canon t s)) taken.read;
+    read = subst (λ u. HasJsonForm (form_of u)) (sym (type-canon t s)) taken.read;
   }
 
   type_text : HasTypeText (canon t s)

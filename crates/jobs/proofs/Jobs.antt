@@ -2,13 +2,13 @@
 use Rattle.std.proofs.Common.{◌≡◌, ◌<◌, arith, ℕ, ◌++◌, [], subst, append-nil, List, refl, ap, sym, ◌∙◌, Option, Some, None}
 use Rattle.std.specs.Io.KnownBytes.{Consumes, IsAtEnd}
 use Rattle.std.specs.Prelude.{IfSome}
-use Rattle.arrow_meaning.specs.Layouts.{Layout, type_of}
+use Rattle.arrow_layout.specs.Layouts.{Layout, type_of}
 use Rattle.arrow_types.specs.Depth.{depth_of}
-use Rattle.arrow_meaning.specs.Fits.{Fits}
+use Rattle.arrow_layout.specs.Fits.{Fits}
 use Rattle.serde_json.specs.Data.{Data}
 use Rattle.arrow_canon.specs.Canonical.{canonical_of}
-use Rattle.column_json.specs.Reads.{Column, column_of}
-use Rattle.jobs.specs.Job.{deepest, IsRead, IsColumn, IsJob, taken, IsSound, Verdict, too_long, bad_text, bad_job, too_deep, bad_layout, overflows, a_job, IsOf, canon_text}
+use Rattle.column_grammar.specs.Reads.{Column, column_of}
+use Rattle.jobs.specs.Job.{deepest, IsRead, IsColumn, IsJob, taken, IsValidColumn, Verdict, too_long, bad_text, bad_job, too_deep, bad_layout, overflows, a_job, IsOf, canon_text}
 
 -- what was taken up to the end is all that there was
 all_taken : (left bytes rest : List ℕ) → left ≡ bytes ++ rest → rest ≡ [] → left ≡ bytes
@@ -65,7 +65,7 @@ one_layout bytes l m h k = h.takes ∙ ap (λ c. taken c.layout c.slice) (one_co
 
 -- a job is none of the causes
 job_sound : (bytes : List ℕ) (l : Layout) → IsJob bytes l → IsOf bad_layout bytes → ⊥
-job_sound bytes l h k = k.2 (subst IsSound (one_column bytes h.column k.0 h.read_as k.1) h.sound)
+job_sound bytes l h k = k.2 (subst IsValidColumn (one_column bytes h.column k.0 h.read_as k.1) h.sound)
 
 pub one_verdict : (bytes : List ℕ) (a b : Verdict) → IsOf a bytes → IsOf b bytes → a ≡ b
 one_verdict bytes too_long too_long h k = refl

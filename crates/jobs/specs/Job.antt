@@ -4,13 +4,13 @@ use Rattle.std.specs.Str.{is_utf8}
 use Rattle.serde_json.specs.Data.{Data}
 use Rattle.serde_json.specs.Read.{read}
 use Rattle.arrow_types.specs.Depth.{depth_of}
-use Rattle.arrow_meaning.specs.Cut.{cut}
-use Rattle.arrow_meaning.specs.Layouts.{Layout, type_of, length_of}
-use Rattle.arrow_meaning.specs.WellFormed.{WellFormed}
-use Rattle.arrow_meaning.specs.Fits.{Fits}
+use Rattle.arrow_layout.specs.Cut.{cut}
+use Rattle.arrow_layout.specs.Layouts.{Layout, type_of, length_of}
+use Rattle.arrow_layout.specs.WellFormed.{WellFormed}
+use Rattle.arrow_layout.specs.Fits.{Fits}
 use Rattle.arrow_canon.specs.Canonical.{canonical_of}
-use Rattle.column_json.specs.Reads.{Column, column_of}
-use Rattle.column_json.specs.Writes.{column_text}
+use Rattle.column_grammar.specs.Reads.{Column, column_of}
+use Rattle.column_grammar.specs.Writes.{column_text}
 
 -- the most bytes that a job may have
 abbrev pub limit : ℕ
@@ -47,7 +47,7 @@ IsWithin l None = ⊤
 IsWithin l (Some s) = s.0 + s.1 ≤ length_of l
 
 -- What a column of a job asks for: its whole layout is well formed, and not the sliced part alone.
-pub record IsSound (c : Column) : Type 0 where
+pub record IsValidColumn (c : Column) : Type 0 where
   pub well_formed : WellFormed c.layout
   pub within : IsWithin c.layout c.slice
 
@@ -55,7 +55,7 @@ pub record IsSound (c : Column) : Type 0 where
 pub record IsJob (bytes : List ℕ) (l : Layout) : Type 0 where
   pub column : Column
   pub read_as : IsColumn bytes column
-  pub sound : IsSound column
+  pub sound : IsValidColumn column
   pub takes : l ≡ taken column.layout column.slice
 
 -- What bytes are: a job, or no job for one of these causes.
@@ -78,7 +78,7 @@ IsOf bad_job bytes = (v : Data) × IsRead bytes v × (column_of v ≡ None)
 -- a column of the grammar whose type is deeper
 IsOf too_deep bytes = (v : Data) × (c : Column) × IsRead bytes v × (column_of v ≡ Some c) × (deepest < depth_of (type_of c.layout))
 -- a column of the grammar, of a type that isn't deeper, that isn't well formed or whose slice passes its length
-IsOf bad_layout bytes = (c : Column) × IsColumn bytes c × (IsSound c → ⊥)
+IsOf bad_layout bytes = (c : Column) × IsColumn bytes c × (IsValidColumn c → ⊥)
 IsOf overflows bytes = (l : Layout) × IsJob bytes l × (Fits (canonical_of l) → ⊥)
 IsOf a_job bytes = (l : Layout) × IsJob bytes l × Fits (canonical_of l)
 

@@ -1,5 +1,5 @@
 //! How deep a type is.
-ghost use Rattle.std.specs.Prelude.{◌≤◌, Decides};
+ghost use Rattle.std.specs.Prelude.{◌≤◌, ◌↔◌, IsTrue};
 ghost use Rattle.arrow_types.specs.Seen.{seen, seen_fields};
 ghost use Rattle.arrow_types.specs.Depth.{depth_of, fields_depth};
 
@@ -9,7 +9,7 @@ use arrow_types::{ArrowDataType, Field};
 #[cycle(depth)]
 #[tactic(auto, using(crate::proofs::Depths::depths))]
 pub fn is_within(dtype: &ArrowDataType, limit: usize) -> bool
-    ensures { Decides result (depth_of (seen dtype.now) ≤ limit) }
+    ensures { IsTrue result ↔ (depth_of (seen dtype.now) ≤ limit) }
 {
     if limit == 0 {
         return false;
@@ -31,7 +31,7 @@ pub fn is_within(dtype: &ArrowDataType, limit: usize) -> bool
 #[cycle(depth)]
 #[tactic(auto, using(crate::proofs::Depths::depths))]
 fn are_within(fields: &[Field], limit: usize) -> bool
-    ensures { Decides result (fields_depth (seen_fields fields.now) ≤ limit) }
+    ensures { IsTrue result ↔ (fields_depth (seen_fields fields.now) ≤ limit) }
 {
     for field in fields {
         if !is_within(&field.dtype, limit) {

@@ -3,8 +3,8 @@ ghost use Rattle.std.specs.Prelude.{◌≡◌, ◌≢◌, ◌↔◌, ◌≤◌, 
 ghost use Rattle.std.specs.Io.KnownBytes.{Appends};
 ghost use Rattle.serde_json.specs.View.{view};
 ghost use Rattle.arrow_types.specs.Seen.{seen};
-ghost use Rattle.arrow_meaning.specs.Layouts.{Layout};
-ghost use Rattle.arrow_meaning.specs.Fits.{Fits};
+ghost use Rattle.arrow_layout.specs.Layouts.{Layout};
+ghost use Rattle.arrow_layout.specs.Fits.{Fits};
 ghost use Rattle.jobs.specs.Causes.{Rose, AppendsFront};
 ghost use Rattle.jobs.specs.Job.{limit, reading, IsColumn, IsJob, IsOf, canon_text, taken, IsWithin};
 ghost use Rattle.arrow_canon.specs.Canonical.{canonical_of};

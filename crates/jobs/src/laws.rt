@@ -3,17 +3,17 @@ ghost use Rattle.std.specs.Prelude.{◌≡◌, ◌↔◌, ◌≤◌, ℕ, List, 
 ghost use Rattle.serde_json.specs.Data.{Data, depth};
 ghost use Rattle.serde_json.specs.Written.{compact_text};
 ghost use Rattle.arrow_types.specs.TypeData.{TypeData};
-ghost use Rattle.arrow_json.specs.Texts.{IsTold};
-ghost use Rattle.arrow_json.specs.TypeJson.{type_in, type_value, IsSpelled};
+ghost use Rattle.type_json.specs.Texts.{IsTold};
+ghost use Rattle.type_json.specs.TypeJson.{type_in, type_value, IsSpelled};
 ghost use Rattle.arrow_flat.specs.Slots.{Slot};
-ghost use Rattle.arrow_meaning.specs.Fits.{Fits};
-ghost use Rattle.arrow_meaning.specs.Layouts.{Layout};
-ghost use Rattle.arrow_meaning.specs.Plain.{IsPlain};
-ghost use Rattle.arrow_meaning.specs.SlotsOf.{HasSlots};
-ghost use Rattle.arrow_meaning.specs.Canon.{canon};
-ghost use Rattle.column_json.specs.Laws.{IsWritable, HasTypeText};
-ghost use Rattle.column_json.specs.Reads.{column_of};
-ghost use Rattle.column_json.specs.Writes.{column_text, column_value};
+ghost use Rattle.arrow_layout.specs.Fits.{Fits};
+ghost use Rattle.arrow_layout.specs.Layouts.{Layout};
+ghost use Rattle.arrow_layout.specs.Plain.{IsPlain};
+ghost use Rattle.arrow_layout.specs.SlotsOf.{HasSlots};
+ghost use Rattle.arrow_layout.specs.Canon.{canon};
+ghost use Rattle.column_grammar.specs.Laws.{IsWritable, HasTypeText};
+ghost use Rattle.column_grammar.specs.Reads.{column_of};
+ghost use Rattle.column_grammar.specs.Writes.{column_text, column_value};
 ghost use Rattle.jobs.specs.Job.{reading, Verdict, IsOf};
 ghost use Rattle.jobs.specs.Laws.{IsTaken};
 

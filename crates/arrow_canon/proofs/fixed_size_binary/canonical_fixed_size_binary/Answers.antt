@@ -1,7 +1,7 @@
 use Rattle.std.proofs.Common.{◌≡◌, ◌/◌, ◌%◌, ◌<◌, length, ap, sym, subst, ◌∙◌}
-use Rattle.arrow_flat.specs.Primitives.{MaskFits}
+use Rattle.arrow_flat.specs.Primitives.{MaskHasLength}
 use Rattle.arrow_bytes.specs.FixedSizeBinaries.{slots}
-use Rattle.arrow_canon.specs.Steps.{plain_mask, joined}
+use Rattle.arrow_canon.specs.Steps.{plain_mask, concatenated}
 use Rattle.arrow_canon.proofs.FixedSizes.{canonical_sized, canonical_size, canonical_multiple, canonical_mask_fits}
 use Rattle.arrow_canon.proofs.fixed_size_binary.canonical_fixed_size_binary.Goals as goal
 
@@ -16,7 +16,7 @@ new-requires-clause-multiple c =
     let a = c.args.array.now in
     let sound = c.dtype.ensures.sound in
     let size = canonical_size a sound c.in_ok-dtype.dtype (c.in_ok-dtype.ensures ∙ c.dtype.ensures.value) in
-    let values : c.in_ok-values-2.values ≡ joined a.size (slots a) = c.in_ok-values-2.ensures ∙ c.in_ok-values.ensures ∙ ap (λ k. joined k (slots a)) c.size.ensures.value in
+    let values : c.in_ok-values-2.values ≡ concatenated a.size (slots a) = c.in_ok-values-2.ensures ∙ c.in_ok-values.ensures ∙ ap (λ k. concatenated k (slots a)) c.size.ensures.value in
     subst (λ n. length c.in_ok-values-2.values % n ≡ 0) (sym size) (canonical_multiple a sound c.in_ok-values-2.values values)
 
 pub new-requires-clause-fits : goal.new-requires-clause-fits
@@ -25,8 +25,8 @@ new-requires-clause-fits c =
     let m = c.in_ok-validity.validity in
     let sound = c.dtype.ensures.sound in
     let size = canonical_size a sound c.in_ok-dtype.dtype (c.in_ok-dtype.ensures ∙ c.dtype.ensures.value) in
-    let values : c.in_ok-values-2.values ≡ joined a.size (slots a) = c.in_ok-values-2.ensures ∙ c.in_ok-values.ensures ∙ ap (λ k. joined k (slots a)) c.size.ensures.value in
-    subst (λ n. MaskFits m (length c.in_ok-values-2.values / n)) (sym size)
+    let values : c.in_ok-values-2.values ≡ concatenated a.size (slots a) = c.in_ok-values-2.ensures ∙ c.in_ok-values.ensures ∙ ap (λ k. concatenated k (slots a)) c.size.ensures.value in
+    subst (λ n. MaskHasLength m (length c.in_ok-values-2.values / n)) (sym size)
     (canonical_mask_fits a sound m c.in_ok-values-2.values (c.in_ok-validity.ensures ∙ ap plain_mask c.validity.ensures) values)
 
 pub returns : goal.returns
@@ -35,7 +35,7 @@ returns c =
     let b = c.new.result in
     let sound = c.dtype.ensures.sound in
     let dtype = c.in_ok-dtype.ensures ∙ c.dtype.ensures.value in
-    let values : c.in_ok-values-2.values ≡ joined a.size (slots a) = c.in_ok-values-2.ensures ∙ c.in_ok-values.ensures ∙ ap (λ k. joined k (slots a)) c.size.ensures.value in
+    let values : c.in_ok-values-2.values ≡ concatenated a.size (slots a) = c.in_ok-values-2.ensures ∙ c.in_ok-values.ensures ∙ ap (λ k. concatenated k (slots a)) c.size.ensures.value in
     canonical_sized a b sound
     (ap (λ x. x.dtype) c.new.ensures ∙ dtype)
     (ap (λ x. x.size) c.new.ensures ∙ canonical_size a sound c.in_ok-dtype.dtype dtype)

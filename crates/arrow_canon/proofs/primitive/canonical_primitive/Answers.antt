@@ -1,5 +1,5 @@
 use Rattle.std.proofs.Common.{◌≡◌, length, ap, sym, ◌∙◌, subst}
-use Rattle.arrow_flat.specs.Primitives.{MaskFits, slots}
+use Rattle.arrow_flat.specs.Primitives.{MaskHasLength, slots}
 use Rattle.arrow_meaning.specs.Nodes.{primitive_layout}
 use Rattle.arrow_canon.specs.Steps.{plain_mask, values_or}
 use Rattle.arrow_canon.proofs.MaskedSlots.{canonical_fits}
@@ -12,9 +12,9 @@ new-requires-clause-fits g c =
     let zero = g.T.NativeType.zero in
     let mask : c.in_ok-validity.validity ≡ plain_mask a.mask = c.in_ok-validity.ensures ∙ ap plain_mask c.validity.ensures in
     let values : c.in_ok-values-2.values ≡ values_or zero (slots a) = c.in_ok-values-2.ensures ∙ c.in_ok-values.ensures in
-    let fits : MaskFits (plain_mask a.mask) (length (values_or zero (slots a))) = canonical_fits zero a.mask a.values c.dtype.ensures.sound.fits in
-    subst (λ m. MaskFits m (length c.in_ok-values-2.values)) (sym mask)
-    (subst (λ vs. MaskFits (plain_mask a.mask) (length vs)) (sym values) fits)
+    let fits : MaskHasLength (plain_mask a.mask) (length (values_or zero (slots a))) = canonical_fits zero a.mask a.values c.dtype.ensures.sound.fits in
+    subst (λ m. MaskHasLength m (length c.in_ok-values-2.values)) (sym mask)
+    (subst (λ vs. MaskHasLength (plain_mask a.mask) (length vs)) (sym values) fits)
 
 pub returns : goal.returns
 returns g c =

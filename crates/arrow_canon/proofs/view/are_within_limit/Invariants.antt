@@ -1,5 +1,5 @@
 use Rattle.std.proofs.Common.{◌≡◌, ◌^◌, ◌≤◌, take}
-use Rattle.arrow_meaning.proofs.PackedViews.{total}
+use Rattle.arrow_flat.proofs.PackedViews.{total}
 use Rattle.arrow_canon.proofs.Views.{slot_values}
 use Rattle.arrow_canon.proofs.view.are_within_limit.Given as goal
 

@@ -1,6 +1,6 @@
 use Rattle.std.proofs.Common.{◌≡◌, ◌+◌, length, ap, sym, ◌∙◌}
 use Rattle.std.specs.Prelude.{pred, map}
-use Rattle.arrow_meaning.specs.Cut.{cut_mask}
+use Rattle.arrow_layout.specs.Cut.{cut_mask}
 use Rattle.arrow_bytes.specs.Binaries.{cut}
 use Rattle.arrow_meaning.specs.Nodes.{binary_layout}
 use Rattle.arrow_meaning.proofs.FlatLayouts.{fits_part, slots_part, before_last, binaries_part}

@@ -1,6 +1,6 @@
 use Rattle.std.proofs.Common.{◌≡◌, length, ap, sym, ◌∙◌}
 use Rattle.arrow_buffers.proofs.Windows.{window_length}
-use Rattle.arrow_meaning.specs.Cut.{cut_mask}
+use Rattle.arrow_layout.specs.Cut.{cut_mask}
 use Rattle.arrow_flat.specs.Booleans.{cut}
 use Rattle.arrow_meaning.specs.Nodes.{boolean_layout}
 use Rattle.arrow_meaning.proofs.FlatLayouts.{fits_part, booleans_part}

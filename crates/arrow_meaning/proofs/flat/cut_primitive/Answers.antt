@@ -1,7 +1,7 @@
 use Rattle.std.proofs.Common.{◌≡◌, ◌+◌, ◌≤◌, length, ap, sym, ◌∙◌, subst}
 use Rattle.std.proofs.lemmas.List.{length-map}
 use Rattle.arrow_buffers.proofs.Windows.{window_length}
-use Rattle.arrow_meaning.specs.Cut.{cut_mask}
+use Rattle.arrow_layout.specs.Cut.{cut_mask}
 use Rattle.arrow_flat.specs.Primitives.{cut}
 use Rattle.arrow_meaning.specs.Nodes.{primitive_layout}
 use Rattle.arrow_meaning.proofs.FlatLayouts.{fits_part, primitives_part}

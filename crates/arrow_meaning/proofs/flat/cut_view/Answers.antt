@@ -1,7 +1,7 @@
 use Rattle.std.proofs.Common.{◌≡◌, length, ap, sym, ◌∙◌}
 use Rattle.arrow_buffers.proofs.Windows.{window_length}
 use Rattle.arrow_views.specs.ViewArrays.{cut}
-use Rattle.arrow_meaning.specs.Cut.{cut_mask}
+use Rattle.arrow_layout.specs.Cut.{cut_mask}
 use Rattle.arrow_meaning.specs.Nodes.{view_layout}
 use Rattle.arrow_meaning.proofs.FlatLayouts.{fits_part, views_part}
 use Rattle.arrow_meaning.proofs.flat.cut_view.Goals as goal

@@ -1,7 +1,7 @@
 use Rattle.std.proofs.Common.{◌≡◌, map, take}
 use Rattle.serde_json.specs.View.{view}
 use Rattle.arrow_flat.specs.Natives.{octets}
-use Rattle.column_json.specs.Values.{bytes_value}
+use Rattle.column_grammar.specs.Values.{bytes_value}
 use Rattle.column_json.proofs.view_writer.buffers_json.Given as goal
 
 abbrev pub invariant-loop-buffer : goal.invariant-loop-buffer

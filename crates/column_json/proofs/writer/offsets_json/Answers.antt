@@ -1,7 +1,7 @@
 use Rattle.std.proofs.Common.{arith, map, ap, ◌∙◌}
 use Rattle.std.proofs.lemmas.List.{take_all}
 use Rattle.serde_json.proofs.Views.{view-Array}
-use Rattle.column_json.specs.Values.{integer_value, list_value}
+use Rattle.column_grammar.specs.Values.{integer_value, list_value}
 use Rattle.column_json.proofs.Offsets.{offset_positive, same_offsets}
 use Rattle.column_json.proofs.writer.offsets_json.Goals as goal
 

@@ -1,6 +1,6 @@
 use Rattle.std.proofs.Common.{◌≡◌, map, take}
 use Rattle.serde_json.specs.View.{view}
-use Rattle.column_json.specs.Values.{integer_value}
+use Rattle.column_grammar.specs.Values.{integer_value}
 use Rattle.column_json.proofs.writer.offsets_json.Given as goal
 
 abbrev pub invariant-loop-offset : goal.invariant-loop-offset

@@ -2,9 +2,9 @@ use Rattle.std.proofs.Common.{◌≡◌, sym, ap, subst, map}
 use Rattle.std.specs.Prelude.{IfOk}
 use Rattle.serde_json.specs.View.{view}
 use Rattle.arrow_types.specs.Seen.{seen}
-use Rattle.arrow_meaning.specs.Forms.{primitive_by}
+use Rattle.arrow_layout.specs.Forms.{primitive_by}
 use Rattle.arrow_meaning.proofs.Primitives.{primitive_form}
-use Rattle.column_json.specs.Writes.{primitives_value}
+use Rattle.column_grammar.specs.Writes.{primitives_value}
 use Rattle.column_json.proofs.writer.primitive_json.Goals as goal
 
 pub returns : goal.returns

@@ -1,6 +1,6 @@
 use Rattle.std.proofs.Common.{◌≡◌, map, take}
 use Rattle.serde_json.specs.View.{view}
-use Rattle.column_json.specs.Values.{number_value}
+use Rattle.column_grammar.specs.Values.{number_value}
 use Rattle.column_json.proofs.writer.values_json.Given as goal
 
 abbrev pub invariant-loop-value : goal.invariant-loop-value

@@ -1,8 +1,8 @@
 use Rattle.std.proofs.Common.{◌≡◌, ◌∙◌, Some, None, refl}
 use Rattle.serde_json.specs.View.{view}
 use Rattle.arrow_types.specs.Seen.{seen}
-use Rattle.arrow_bytes.specs.FixedSizeBinaries.{size_of}
-use Rattle.column_json.specs.Reads.{data_in}
+use Rattle.arrow_bytes.specs.FixedSizeBinaries.{declared_size}
+use Rattle.column_grammar.specs.Reads.{data_in}
 use Rattle.column_read.specs.Parts.{data_of}
 use Rattle.column_read.proofs.StoredData.{data_stored}
 use Rattle.column_read.proofs.Loops.{if_ok}
@@ -19,4 +19,4 @@ returns-in-Some-clause-bad c = λ h. same c ∙ c.parts_in.ensures.bad h (seen c
 
 pub returns-in-None-clause-bad : goal.returns-in-None-clause-bad
 returns-in-None-clause-bad c = λ _.
-    data_stored (seen c.args.dtype.now) (view c.args.value.now) None (size_of (seen c.args.dtype.now)) c.in-None.ensures refl
+    data_stored (seen c.args.dtype.now) (view c.args.value.now) None (declared_size (seen c.args.dtype.now)) c.in-None.ensures refl

@@ -1,7 +1,7 @@
 use Rattle.std.proofs.Common.{arith, sym}
 use Rattle.serde_json.specs.View.{view}
-use Rattle.column_json.specs.Values.{signed_in}
-use Rattle.column_json.specs.Reads.{offset_bits}
+use Rattle.column_grammar.specs.Values.{signed_in}
+use Rattle.column_grammar.specs.Reads.{offset_bits}
 use Rattle.column_read.proofs.Loops.{read_none, read_more}
 use Rattle.column_read.proofs.reader.offset_list.Goals as goal
 

@@ -1,9 +1,9 @@
 use Rattle.std.proofs.Common.{◌≡◌, take, Some}
 use Rattle.std.specs.Prelude.{map}
 use Rattle.serde_json.specs.View.{view}
-use Rattle.arrow_json.specs.Values.{traverse}
-use Rattle.column_json.specs.Values.{signed_in}
-use Rattle.column_json.specs.Reads.{offset_bits}
+use Rattle.type_json.specs.Values.{traverse}
+use Rattle.column_grammar.specs.Values.{signed_in}
+use Rattle.column_grammar.specs.Reads.{offset_bits}
 use Rattle.column_read.proofs.reader.offset_list.Given as goal
 
 abbrev pub invariant-loop-item : goal.invariant-loop-item

@@ -1,6 +1,6 @@
 use Rattle.std.proofs.Common.{arith, rules}
 use Rattle.serde_json.specs.View.{view}
-use Rattle.column_json.specs.Values.{number_in}
+use Rattle.column_grammar.specs.Values.{number_in}
 use Rattle.column_read.proofs.Loops.{read_none, read_more}
 use Rattle.column_read.proofs.reader.value_list.Goals as goal
 

@@ -1,8 +1,8 @@
 use Rattle.std.proofs.Common.{◌≡◌, take, Some}
 use Rattle.std.specs.Prelude.{map}
 use Rattle.serde_json.specs.View.{view}
-use Rattle.arrow_json.specs.Values.{traverse}
-use Rattle.column_json.specs.Values.{number_in}
+use Rattle.type_json.specs.Values.{traverse}
+use Rattle.column_grammar.specs.Values.{number_in}
 use Rattle.column_read.proofs.reader.value_list.Given as goal
 
 abbrev pub invariant-loop-item : goal.invariant-loop-item

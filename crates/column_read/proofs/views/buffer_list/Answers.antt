@@ -1,7 +1,7 @@
 use Rattle.std.proofs.Common.{arith, sym, rules, ap, ◌∙◌, ◌≡◌, Some}
 use Rattle.serde_json.specs.View.{view}
 use Rattle.arrow_flat.specs.Natives.{octets}
-use Rattle.column_json.specs.Values.{bytes_in}
+use Rattle.column_grammar.specs.Values.{bytes_in}
 use Rattle.column_read.proofs.Loops.{read_none, read_more}
 use Rattle.column_read.proofs.views.buffer_list.Goals as goal
 

@@ -1,15 +1,15 @@
 use Rattle.std.proofs.Common.{arith, rules}
 use Rattle.serde_json.specs.View.{view}
-use Rattle.column_json.specs.Reads.{view_in}
-use Rattle.column_read.specs.Parts.{view_of}
+use Rattle.column_grammar.specs.Reads.{view_in}
+use Rattle.column_read.specs.Parts.{raw_view_of}
 use Rattle.column_read.proofs.Loops.{read_none, read_more}
 use Rattle.column_read.proofs.views.view_list.Goals as goal
 
 pub returns-in_err-view_in-clause-bad : goal.returns-in_err-view_in-clause-bad
 returns-in_err-view_in-clause-bad c = λ h buffers.
-    read_none view (view_in buffers) (view_of buffers) c.args.list.now c.loop-item.item-index c.item-item.result (omega arith) c.item-item.is (c.in_err-view_in.ensures.bad (search (rules, h)) buffers)
+    read_none view (view_in buffers) (raw_view_of buffers) c.args.list.now c.loop-item.item-index c.item-item.result (omega arith) c.item-item.is (c.in_err-view_in.ensures.bad (search (rules, h)) buffers)
 
 pub loop-item-preserved : goal.loop-item-preserved
 loop-item-preserved c = λ buffers.
-    read_more view (view_in buffers) (view_of buffers) c.args.list.now c.loop-item.item-index c.item-item.result c.loop-item.views.items c.push.new.self.items c.in_ok-view_in.field-0 (omega arith)
+    read_more view (view_in buffers) (raw_view_of buffers) c.args.list.now c.loop-item.item-index c.item-item.result c.loop-item.views.items c.push.new.self.items c.in_ok-view_in.field-0 (omega arith)
     (c.loop-item.invariant buffers) c.item-item.is (c.in_ok-view_in.ensures.ok buffers) c.in_ok-push.ensures.items

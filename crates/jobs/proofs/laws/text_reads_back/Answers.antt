@@ -1,5 +1,5 @@
-use Rattle.column_json.proofs.ColumnBack.{column_back}
-use Rattle.column_json.proofs.TextBack.{text_reads, line_is_utf8}
+use Rattle.column_grammar.proofs.ColumnBack.{column_back}
+use Rattle.column_grammar.proofs.TextBack.{text_reads, line_is_utf8}
 use Rattle.jobs.proofs.Readings.{reading_some}
 use Rattle.jobs.proofs.laws.text_reads_back.Goals as goal
 

@@ -1,4 +1,4 @@
-use Rattle.arrow_json.proofs.TypeBack.{type_back}
+use Rattle.type_json.proofs.TypeBack.{type_back}
 use Rattle.jobs.proofs.laws.type_reads_back.Goals as goal
 
 pub returns : goal.returns

@@ -1,5 +1,5 @@
-use Rattle.arrow_json.proofs.Told.{told_written}
-use Rattle.arrow_json.proofs.Written.{line_reads, line_utf8}
+use Rattle.type_json.proofs.Told.{told_written}
+use Rattle.type_json.proofs.Written.{line_reads, line_utf8}
 use Rattle.jobs.proofs.Readings.{reading_some}
 use Rattle.jobs.proofs.laws.value_reads_back.Goals as goal
 

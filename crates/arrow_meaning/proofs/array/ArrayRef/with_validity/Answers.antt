@@ -1,5 +1,5 @@
 use Rattle.std.proofs.Common.{ap, ◌∙◌, subst}
-use Rattle.arrow_meaning.specs.Masks.{KeysInRange, with_mask}
+use Rattle.arrow_layout.specs.Masks.{KeysInRange, with_mask}
 use Rattle.arrow_meaning.specs.Refusals.{IsUnion}
 use Rattle.arrow_meaning.proofs.Remask.{takes_mask}
 use Rattle.arrow_meaning.proofs.array.ArrayRef.with_validity.Goals as goal

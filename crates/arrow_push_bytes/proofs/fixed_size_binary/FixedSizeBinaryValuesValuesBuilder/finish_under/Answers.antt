@@ -1,6 +1,6 @@
 use Rattle.std.proofs.Common.{◌≡◌, ◌/◌, ◌%◌, ◌<◌, length, ap, sym, ◌∙◌, subst}
 use Rattle.arrow_types.specs.Seen.{seen}
-use Rattle.arrow_flat.specs.Primitives.{MaskFits}
+use Rattle.arrow_flat.specs.Primitives.{MaskHasLength}
 use Rattle.arrow_flat.specs.Slots.{bytes}
 use Rattle.arrow_push.proofs.Finished.{shown_parts}
 use Rattle.arrow_push_bytes.specs.SizedBytes.{sized_strings, shown_sized}
@@ -25,8 +25,8 @@ new-requires-2-clause-fits c =
     let now = c.args.self.now in
     let values = c.in_ok-values.ensures ∙ ap (λ v. v.items) c.replace-values.ensures.value in
     let size = known_size (seen c.in_ok-dtype.dtype) (seen now.dtype) now.size (ap seen c.in_ok-dtype.ensures) now.sized in
-    subst (λ n. MaskFits c.args.validity (length c.in_ok-values.values / n)) (sym size)
-    (subst (MaskFits c.args.validity) (slots_count now.size now.values.items ∙ ap (λ xs. length xs / now.size) (sym values)) c.requires)
+    subst (λ n. MaskHasLength c.args.validity (length c.in_ok-values.values / n)) (sym size)
+    (subst (MaskHasLength c.args.validity) (slots_count now.size now.values.items ∙ ap (λ xs. length xs / now.size) (sym values)) c.requires)
 
 pub returns-clause-value : goal.returns-clause-value
 returns-clause-value c =

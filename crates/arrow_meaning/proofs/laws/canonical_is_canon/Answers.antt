@@ -1,5 +1,0 @@
-use Rattle.arrow_meaning.proofs.Unique.{canonical-is_canon}
-use Rattle.arrow_meaning.proofs.laws.canonical_is_canon.Goals as goal
-
-pub returns : goal.returns
-returns c = canonical-is_canon

@@ -1,8 +1,0 @@
-use Rattle.arrow_meaning.proofs.Spelled.{spelled_one, no_prefix}
-use Rattle.arrow_meaning.proofs.laws.spelling_is_unique.Goals as goal
-
-pub returns-clause-one : goal.returns-clause-one
-returns-clause-one c = spelled_one
-
-pub returns-clause-no_prefix : goal.returns-clause-no_prefix
-returns-clause-no_prefix c = no_prefix

@@ -1,3 +1,0 @@
-pub mod PartsPushed
-pub mod ViewsBuilt
-pub mod ViewsPacked

@@ -1,0 +1,6 @@
+pub mod ColumnBack
+pub mod DataBack
+pub mod DataWritten
+pub mod NumbersBack
+pub mod Spelled
+pub mod TextBack

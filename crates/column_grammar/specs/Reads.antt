@@ -1,0 +1,124 @@
+-- A column from a JSON value: `{"data":D,"type":T}`, with `"slice":[o,n]` beside them or not.
+use Rattle.std.specs.Prelude.{ℕ, ◌+◌, ◌/◌, List, [], take, drop, replicate, get_or, length, Bool, ◌&&◌, nat_le, nat_lt, ℤ, cond, if◌then◌else◌, Option, Some, None, is_some, option_map, option_and_then, codes}
+use Rattle.std.specs.Option.{option_zip}
+use Rattle.serde_json.specs.Data.{Data}
+use Rattle.serde_json.specs.Find.{as_str}
+use Rattle.arrow_buffers.specs.Bits.{Bits}
+use Rattle.arrow_buffers.specs.Offsets.{to_nat}
+use Rattle.arrow_types.specs.TypeData.{TypeData}
+use Rattle.arrow_types.specs.declared.datatype.PrimitiveType.{PrimitiveType}
+use Rattle.arrow_flat.specs.Views.{View, inline_view, long}
+use Rattle.type_json.specs.TypeJson.{type_in}
+use Rattle.type_json.specs.Values.{two_members, three_members, whole_in}
+use Rattle.arrow_layout.specs.Forms.{Form, booleans_of, primitives_of, binaries_of, fixed_size_binaries_of, views_of, form_of}
+use Rattle.arrow_layout.specs.Layouts.{Layout, booleans, primitives, binaries, fixed_size_binaries, views}
+use Rattle.column_grammar.specs.Values.{bits_in_json, mask_in, bytes_in, signed_in, unsigned_in, number_in, triple_of, pair_of, items_in, list_in}
+
+-- ---- the data of each kind of layout
+
+-- `{"mask":M,"values":text of 0 and 1}`
+abbrev pub booleans_from : TypeData → Data × Data → Option Layout
+booleans_from t d = option_map (λ p. booleans t p.0 p.1) (option_zip (mask_in d.0) (bits_in_json d.1))
+
+unfoldable pub booleans_in : TypeData → Data → Option Layout
+booleans_in t d = option_and_then (booleans_from t) (two_members (codes "mask") (codes "values") d)
+
+-- `{"mask":M,"values":[v..]}`
+abbrev pub primitives_from : TypeData → PrimitiveType → Data × Data → Option Layout
+primitives_from t p d = option_map (λ q. primitives t q.0 q.1) (option_zip (mask_in d.0) (list_in (number_in p) d.1))
+
+unfoldable pub primitives_in : TypeData → PrimitiveType → Data → Option Layout
+primitives_in t p d = option_and_then (primitives_from t p) (two_members (codes "mask") (codes "values") d)
+
+-- the bits of an offset beside its sign
+abbrev pub offset_bits : Bool → ℕ
+offset_bits large = cond large 63 31
+
+-- `{"bytes":hex,"mask":M,"offsets":[n..]}`
+abbrev pub binaries_from : TypeData → Bool → Data × (Data × Data) → Option Layout
+binaries_from t large d =
+    option_map (λ q. binaries t q.1.0 q.1.1 q.0) (option_zip (bytes_in d.0) (option_zip (mask_in d.1.0) (list_in (signed_in (offset_bits large)) d.1.1)))
+
+unfoldable pub binaries_in : TypeData → Bool → Data → Option Layout
+binaries_in t large d = option_and_then (binaries_from t large) (three_members (codes "bytes") (codes "mask") (codes "offsets") d)
+
+-- `{"bytes":hex,"mask":M}`, of as many slots as the size of a value goes into the bytes
+abbrev pub fixed_size_binaries_from : TypeData → ℕ → Data × Data → Option Layout
+fixed_size_binaries_from t k d = option_map (λ q. fixed_size_binaries t q.1 k (length q.0 / k) q.0) (option_zip (bytes_in d.0) (mask_in d.1))
+
+unfoldable pub fixed_size_binaries_in : TypeData → ℕ → Data → Option Layout
+fixed_size_binaries_in t k d = option_and_then (fixed_size_binaries_from t k) (two_members (codes "bytes") (codes "mask") d)
+
+-- The first four bytes of a range of a buffer, zeros where the range isn't there.
+abbrev pub prefix_in : List (List ℕ) → ℕ → ℕ → ℕ → List ℕ
+prefix_in buffers n b o = if nat_lt b (length buffers) && nat_le (o + n) (length (get_or buffers b [])) then take 4 (drop o (get_or buffers b [])) else replicate 4 0
+
+-- a value of more than twelve bytes
+abbrev pub long_of : List (List ℕ) → ℤ × (ℤ × ℤ) → Option View
+long_of buffers z =
+    if nat_lt 12 (to_nat z.0) then Some (long (to_nat z.0) (prefix_in buffers (to_nat z.0) (to_nat z.1.0) (to_nat z.1.1)) (to_nat z.1.0) (to_nat z.1.1)) else None
+
+abbrev pub long_from : List (List ℕ) → Data × (Data × Data) → Option View
+long_from buffers d = option_and_then (long_of buffers) (option_zip (unsigned_in 32 d.0) (option_zip (unsigned_in 32 d.1.0) (unsigned_in 32 d.1.1)))
+
+abbrev pub long_in : List (List ℕ) → Data → Option View
+long_in buffers d = option_and_then (long_from buffers) (option_and_then triple_of (items_in d))
+
+-- a value of at most twelve bytes
+abbrev pub inline_of : List ℕ → Option View
+inline_of bs = if nat_le (length bs) 12 then Some (inline_view bs) else None
+
+-- hexadecimal text of at most twelve bytes, or `[length,buffer,offset]`
+unfoldable pub view_in : List (List ℕ) → Data → Option View
+view_in buffers d = if is_some (as_str d) then option_and_then inline_of (bytes_in d) else long_in buffers d
+
+abbrev pub views_of_parts : TypeData → Data → Option Bits → List (List ℕ) → Option Layout
+views_of_parts t d m buffers = option_map (λ vs. views t m vs buffers) (list_in (view_in buffers) d)
+
+-- `{"buffers":[hex..],"mask":M,"views":[w..]}`
+abbrev pub views_from : TypeData → Data × (Data × Data) → Option Layout
+views_from t d = option_and_then (λ q. views_of_parts t d.1.1 q.1 q.0) (option_zip (list_in bytes_in d.0) (mask_in d.1.0))
+
+unfoldable pub views_in : TypeData → Data → Option Layout
+views_in t d = option_and_then (views_from t) (three_members (codes "buffers") (codes "mask") (codes "views") d)
+
+-- the data of a column, by how its type is laid out
+abbrev pub data_by : Form → TypeData → Data → Option Layout
+data_by booleans_of t d = booleans_in t d
+data_by (primitives_of p) t d = primitives_in t p d
+data_by (binaries_of large text) t d = binaries_in t large d
+data_by (fixed_size_binaries_of k) t d = fixed_size_binaries_in t k d
+data_by (views_of text) t d = views_in t d
+data_by _ t d = None
+
+abbrev pub data_in : TypeData → Data → Option Layout
+data_in t d = data_by (form_of t) t d
+
+-- ---- the column
+
+-- a layout, well formed or not, and the offset and the length of the slice that stands beside it
+pub record Column : Type 0 where
+  pub layout : Layout
+  pub slice : Option (ℕ × ℕ)
+
+abbrev pub slice_from : Data × Data → Option (ℕ × ℕ)
+slice_from d = option_zip (whole_in d.0) (whole_in d.1)
+
+unfoldable pub slice_in : Data → Option (ℕ × ℕ)
+slice_in d = option_and_then slice_from (option_and_then pair_of (items_in d))
+
+abbrev pub column_from : Option (ℕ × ℕ) → Data × Data → Option Column
+column_from s d = option_map (λ l. record { layout = l; slice = s }) (option_and_then (λ t. data_in t d.0) (type_in d.1))
+
+abbrev pub sliced_from : Data × (Data × Data) → Option Column
+sliced_from d = option_and_then (λ s. column_from (Some s) (d.0, d.1.1)) (slice_in d.1.0)
+
+abbrev pub without_slice : Data → Option Column
+without_slice d = option_and_then (column_from None) (two_members (codes "data") (codes "type") d)
+
+abbrev pub with_slice : Data → Option Column
+with_slice d = option_and_then sliced_from (three_members (codes "data") (codes "slice") (codes "type") d)
+
+-- the column that a value is, where it is in the grammar
+unfoldable pub column_of : Data → Option Column
+column_of d = cond (is_some (two_members (codes "data") (codes "type") d)) (without_slice d) (with_slice d)

@@ -1,5 +1,0 @@
-use Rattle.column_json.proofs.ColumnBack.{column_back}
-use Rattle.column_json.proofs.laws.column_reads_back.Goals as goal
-
-pub returns : goal.returns
-returns c = column_back

@@ -1,5 +1,0 @@
-use Rattle.column_json.proofs.TextBack.{text_tells}
-use Rattle.column_json.proofs.laws.text_tells_column.Goals as goal
-
-pub returns : goal.returns
-returns c = text_tells

@@ -1,0 +1,29 @@
+ghost use Rattle.std.specs.Prelude.{◌≡◌};
+ghost use Rattle.type_json.specs.declared.error.JsonError.TheVariants.{OutOfMemory};
+
+use std::alloc::{AllocError, AllocFailed};
+
+/// Why a value gives no type.
+#[derive(Clone, Copy, Debug, PartialEq, Eq)]
+pub enum JsonError {
+    /// It spells none.
+    NoType,
+    /// There was no memory.
+    OutOfMemory,
+}
+
+impl From<AllocError> for JsonError {
+    ghost from_gives = { λ _ e. e ≡ OutOfMemory };
+
+    fn from(_: AllocError) -> JsonError {
+        JsonError::OutOfMemory
+    }
+}
+
+impl<T: Drop> From<AllocFailed<T>> for JsonError {
+    ghost from_gives = { λ _ e. e ≡ OutOfMemory };
+
+    fn from(_: AllocFailed<T>) -> JsonError {
+        JsonError::OutOfMemory
+    }
+}
