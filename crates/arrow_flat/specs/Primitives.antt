@@ -1,6 +1,5 @@
 -- What a contract sees of an array of fixed-width values.
 use Rattle.std.specs.Prelude.{◌≡◌, ◌+◌, ◌-◌, ◌<◌, ◌≤◌, ℕ, nat_eq, Bool, true, false, cond, List, length, take, drop, map, get_or, Option, Some, None}
-use Rattle.std.specs.Borrow.{Bor}
 use Rattle.std.specs.Simd.Lanes.{zip2}
 use Rattle.arrow_buffers.specs.Bits.{Bits, cut_bits, count_unset}
 use Rattle.arrow_types.specs.Carried.{IsCarried}

@@ -2,7 +2,6 @@
 use Rattle.arrow_flat.specs.Natives.{AreBytes}
 use Rattle.std.specs.Prelude.{◌≡◌, ℕ, ◌^◌, ◌<◌, ◌≤◌, nat_le, cond, List, ◌++◌, take, drop, length}
 use Rattle.std.specs.Int.{w32, from_le_bytes, to_le_bytes}
-use Rattle.std.specs.List.{AllByRecursion}
 use Rattle.arrow_flat.specs.Views.{View, inline, long}
 
 -- The number of the four bytes from `at` on, the lowest first.
