@@ -11,7 +11,7 @@ use Rattle.std.proofs.lemmas.List.FromFn.{map-range_with_len_more, sum_by-map-ra
 use Rattle.std.proofs.lemmas.List.Sums.{sum_by-append, count_by-le-length}
 use Rattle.std.proofs.Math.Dec.{eqb}
 use Rattle.std.proofs.lemmas.Bool.{eq-eqb, ne_eqb, eqb-true, eqb-false}
-use Rattle.arrow_buffers.specs.Bits.{Bits, both, same, count_unset, ones_of, bit_of, bits_of, lead_of, cut_bits}
+use Rattle.arrow_buffers.specs.Bits.{Bits, both, same, count_unset, ones_of, bit_of, bits_of, lead_of, cut_bits, byte_count}
 use Rattle.arrow_buffers.proofs.Windows.{cut_range, same_range, shifted, split_sum}
 use Rattle.std.proofs.lemmas.List.FromFn.{get_or-map-range_with_len, length-map-range_with_len}
 
@@ -25,6 +25,15 @@ seen_length bytes s n b e = ap (λ x. length x.bits) (sym e) ∙ length-map-rang
 pub seen_lead : (bytes : List ℕ) (s n : ℕ) (b : Bits) → seen bytes s n ≡ b → (n ≡ 0 → ⊥) → b.lead ≡ s % 8
 seen_lead bytes s zero b e h = absurd (h refl)
 seen_lead bytes s (suc n) b e h = ap (λ x. x.lead) (sym e)
+
+-- the bytes that bits lie in
+pub bytes_of_none : (lead n : ℕ) → n ≡ 0 → byte_count lead n ≡ 0
+bytes_of_none lead zero h = refl
+bytes_of_none lead (suc n) h = absurd (omega arith)
+
+pub bytes_of_some : (lead n : ℕ) → (n ≡ 0 → ⊥) → byte_count lead n ≡ (lead + n + 7) / 8
+bytes_of_some lead zero h = absurd (h refl)
+bytes_of_some lead (suc n) h = refl
 
 pub cut_lead : (s m o n : ℕ) → o + n ≤ m → lead_of (s + o) n ≡ lead_of (lead_of s m + o) n
 cut_lead s m o zero h = refl

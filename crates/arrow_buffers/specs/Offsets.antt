@@ -26,7 +26,8 @@ falls least (x ∷ xs) = int_lt x least || falls x xs
 -- Why numbers are no offsets, if they are none.
 abbrev pub offsets_refusal : List ℤ → Option OffsetError
 offsets_refusal [] = Some Empty
-offsets_refusal (x ∷ xs) = if int_lt x (pos 0) then Some Negative else (if falls x xs then Some NotMonotone else None)
+offsets_refusal (x ∷ xs) =
+    if int_lt x (pos 0) then Some Negative else (if falls x xs then Some NotMonotone else None)
 
 -- Where the slots begin.
 abbrev pub first_of : List ℤ → ℕ
@@ -50,7 +51,8 @@ ends start (n ∷ ns) = pos (start + n) ∷ ends (start + n) ns
 abbrev pub moved : ℕ → ℕ → List ℤ → List ℤ
 moved first to os = map (λ o. pos (to + (to_nat o - first))) os
 
--- Why slots that would end at `end` are refused: it passes the greatest offset, or it does not and memory is short.
+-- Why slots that would end at `end` are refused: it passes the greatest offset, or it does not and
+-- there is no memory.
 abbrev pub IsGrowthRefusal : OffsetError → ℕ → ℕ → Type 0
 IsGrowthRefusal Overflow limit end = limit ≤ end
 IsGrowthRefusal OutOfMemory limit end = end < limit

@@ -1,21 +1,22 @@
 //! A window over shared bits.
 ghost use Rattle.std.specs.Prelude.{◌≡◌, ◌+◌, ◌<◌, ◌≤◌, length as count, get_or, false, replicate, IfOk};
 ghost use Rattle.std.specs.List.{count_by};
-ghost use Rattle.arrow_buffers.specs.Bits.{Bits, plain, cut_bits, count_unset, byte_length, both, same};
+ghost use Rattle.arrow_buffers.specs.Bits.{Bits, plain, cut_bits, count_unset, needed_mask, byte_length, both, same};
 
 use crate::bits::{bit_at, count_set};
 use crate::{BitmapIter, Buffer, Mem, MutableBitmap};
 use std::alloc::Global;
 use std::marker::Model;
 
-/// Bits that may be shared, seen as the list of those in its window and the count of bits before them in their byte.
+/// A window over shared bits, seen as the list of its bits and the count of bits before them in
+/// their byte. Upstream's `Bitmap`.
 pub struct Bitmap {
     pub(crate) bytes: Buffer<u8>,
     pub(crate) start: usize,
     pub(crate) slots: usize,
 }
 
-/// By hand, so that each place where a value may end has one call to prove, and not the drop of every field.
+/// By hand: where a value may end there is one call to prove then, not the drop of each field.
 impl Drop for Bitmap {
     fn drop(self) {
         let Bitmap {
@@ -34,9 +35,13 @@ impl Model for Bitmap {
 
     ghost coded = { bits_code };
 
-    ghost view = { λ b. record { bits = bits_of b.bytes b.start b.slots; lead = lead_of b.start b.slots } };
+    ghost view = { λ b. record {
+      bits = bits_of b.bytes b.start b.slots;
+      lead = lead_of b.start b.slots;
+    } };
 
-    ghost invariant = { λ b. (b.start + b.slots ≤ 8 * length b.bytes) × (b.start + b.slots < 2 ^ 64) };
+    ghost invariant = { λ b. (b.start + b.slots ≤ 8 * length b.bytes)
+        × (b.start + b.slots < 2 ^ 64) };
 }
 
 impl Bitmap {
@@ -108,6 +113,17 @@ impl Bitmap {
         ensures { result ≡ count_unset self.now.bits }
     {
         self.slots - self.set_bits()
+    }
+
+    /// The bits as a mask of slots, or `None` where every bit is set: a mask without nulls is
+    /// dropped.
+    pub fn into_opt_validity(self) -> Option<Bitmap>
+        ensures { result ≡ needed_mask self }
+    {
+        if self.unset_bits() == 0 {
+            return None;
+        }
+        Some(self)
     }
 
     /// Gives the bits in order.

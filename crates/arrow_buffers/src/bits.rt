@@ -2,7 +2,7 @@
 ghost use Rattle.std.specs.Prelude.{◌≡◌, ℕ, ◌+◌, ◌-◌, ◌*◌, ◌/◌, ◌%◌, ◌<◌, ◌≤◌, ◌^◌, ◌≢◌, cond, nat_eq, length as count, replicate, ◌++◌, OnOk, OnErr};
 ghost use Rattle.std.specs.Int.{bit_at as bit_in};
 ghost use Rattle.arrow_buffers.specs.Bits.{bit_of, bits_of, ones_of};
-ghost use Rattle.arrow_buffers.specs.Writes.{WritesBit, CopiesBits, FillsBits};
+ghost use Rattle.arrow_buffers.specs.Writes.{WritesBit, CopiesBits, FillsBits, AppendsBits};
 
 use crate::Mem;
 
@@ -111,7 +111,7 @@ fn copy_bits(bytes: &mut Vec<u8>, place: usize, source: &[u8], start: usize, len
     copy_each(bytes, place + front, source, start + front, len - front);
 }
 
-/// Writes `len` bits of `source` behind the first `slots` ones.
+/// Writes `len` bits of `source` after the first `slots` ones.
 pub(crate) fn append_bits(
     bytes: &mut Vec<u8>,
     slots: usize,
@@ -121,8 +121,8 @@ pub(crate) fn append_bits(
 ) -> Mem<()>
     requires target { (slots ≤ 8 * count bytes.old.items) × (slots + len < 2 ^ 64) }
     requires source { (start + len ≤ 8 * count source.now) × (start + len < 2 ^ 64) }
-    ensures ok { OnOk result ((bits_of bytes.new.items 0 (slots + len) ≡ bits_of bytes.old.items 0 slots ++ bits_of source.now start len)
-        × (slots + len ≤ 8 * count bytes.new.items)) }
+    ensures ok { OnOk result
+        (AppendsBits bytes.old.items bytes.new.items slots len (bits_of source.now start len)) }
     ensures err { OnErr result (bytes.new.items ≡ bytes.old.items) }
 {
     bytes.resize((slots + len).div_ceil(8), 0)?;
@@ -130,11 +130,11 @@ pub(crate) fn append_bits(
     Ok(())
 }
 
-/// Writes `len` equal bits behind the first `slots` ones, whole bytes at a time past the first byte.
+/// Writes `len` equal bits after the first `slots` ones, whole bytes at a time past the first byte.
 pub(crate) fn append_equal(bytes: &mut Vec<u8>, slots: usize, len: usize, bit: bool) -> Mem<()>
     requires { (slots ≤ 8 * count bytes.old.items) × (slots + len < 2 ^ 64) }
-    ensures ok { OnOk result ((bits_of bytes.new.items 0 (slots + len) ≡ bits_of bytes.old.items 0 slots ++ replicate len bit)
-        × (slots + len ≤ 8 * count bytes.new.items)) }
+    ensures ok { OnOk result
+        (AppendsBits bytes.old.items bytes.new.items slots len (replicate len bit)) }
     ensures err { OnErr result ((bits_of bytes.new.items 0 slots ≡ bits_of bytes.old.items 0 slots)
         × (slots ≤ 8 * count bytes.new.items)) }
 {

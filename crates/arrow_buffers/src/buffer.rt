@@ -15,7 +15,7 @@ pub struct Buffer<T> {
     slots: usize,
 }
 
-/// By hand, so that each place where a value may end has one call to prove, and not the drop of every field.
+/// By hand: where a value may end there is one call to prove then, not the drop of each field.
 impl<T: Drop> Drop for Buffer<T> {
     fn drop(self) {
         let Buffer {

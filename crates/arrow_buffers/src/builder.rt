@@ -11,7 +11,7 @@ pub struct BitmapBuilder {
     bits: MutableBitmap,
 }
 
-/// By hand, so that each place where a value may end has one call to prove, and not the drop of every field.
+/// By hand: where a value may end there is one call to prove then, not the drop of each field.
 impl Drop for BitmapBuilder {
     fn drop(self) {
         let BitmapBuilder { bits: _ } = self;
@@ -90,6 +90,15 @@ impl BitmapBuilder {
         self.bits.reserve(n)
     }
 
+    /// An equal copy, with bytes of its own.
+    pub fn try_clone(&self, alloc: Global) -> Mem<BitmapBuilder>
+        ensures { IfOk result (λ b. b ≡ self.now) }
+    {
+        Ok(BitmapBuilder {
+            bits: self.bits.try_clone(alloc)?,
+        })
+    }
+
     /// The bits as a bitmap, with no bits before them.
     pub fn freeze(self) -> Mem<Bitmap>
         ensures { IfOk result (λ b. b ≡ plain self) }
@@ -100,13 +109,8 @@ impl BitmapBuilder {
 
     /// The bits as a mask, or `None` where every bit is set.
     pub fn into_opt_validity(self) -> Mem<Option<Bitmap>>
-        ensures { IfOk result (λ mask. mask ≡ needed_mask self) }
+        ensures { IfOk result (λ mask. mask ≡ needed_mask (plain self)) }
     {
-        let BitmapBuilder { bits } = self;
-        let mask = bits.freeze()?;
-        if mask.unset_bits() == 0 {
-            return Ok(None);
-        }
-        Ok(Some(mask))
+        Ok(self.freeze()?.into_opt_validity())
     }
 }

@@ -1,6 +1,7 @@
 //! Bits that grow.
 ghost use Rattle.std.specs.Prelude.{◌≡◌, ◌+◌, ◌*◌, ◌<◌, ◌≤◌, ◌^◌, length as count, [], ◌∷◌, ◌++◌, take, drop, replicate, get_or, slice_set, false, IfOk, OnOk, OnErr};
 ghost use Rattle.arrow_buffers.specs.Bits.{plain, bits_of};
+ghost use Rattle.arrow_buffers.specs.Writes.{AppendsBits};
 
 use crate::bits::{append_bits, append_equal, bit_at, write_bit};
 use crate::{Bitmap, Buffer, Mem};
@@ -13,7 +14,7 @@ pub struct MutableBitmap {
     slots: usize,
 }
 
-/// By hand, so that each place where a value may end has one call to prove, and not the drop of every field.
+/// By hand: where a value may end there is one call to prove then, not the drop of each field.
 impl Drop for MutableBitmap {
     fn drop(self) {
         let MutableBitmap { bytes: _, slots: _ } = self;
@@ -138,6 +139,16 @@ impl MutableBitmap {
         self.bytes.shrink_to_fit();
     }
 
+    /// An equal copy, with bytes of its own.
+    pub fn try_clone(&self, alloc: Global) -> Mem<MutableBitmap>
+        ensures { IfOk result (λ b. b ≡ self.now) }
+    {
+        Ok(MutableBitmap {
+            bytes: Vec::from_slice(alloc, self.bytes.as_slice())?,
+            slots: self.slots,
+        })
+    }
+
     /// The bits as a bitmap, with no bits before them.
     pub fn freeze(self) -> Mem<Bitmap>
         ensures { IfOk result (λ b. b ≡ plain self) }
@@ -152,7 +163,7 @@ impl MutableBitmap {
     }
 }
 
-/// Makes room for a bit behind the first `slots` ones.
+/// Makes room for a bit after the first `slots` ones.
 fn make_room(bytes: &mut Vec<u8>, slots: usize) -> Mem<()>
     requires { slots ≤ 8 * count bytes.old.items }
     ensures ok { OnOk result ((bits_of bytes.new.items 0 slots ≡ bits_of bytes.old.items 0 slots)
@@ -165,11 +176,10 @@ fn make_room(bytes: &mut Vec<u8>, slots: usize) -> Mem<()>
     Ok(())
 }
 
-/// Writes a bit behind the first `slots` ones.
+/// Writes a bit after the first `slots` ones.
 fn grow(bytes: &mut Vec<u8>, slots: usize, bit: bool) -> Mem<()>
     requires { slots ≤ 8 * count bytes.old.items }
-    ensures ok { OnOk result ((bits_of bytes.new.items 0 (slots + 1) ≡ bits_of bytes.old.items 0 slots ++ bit ∷ [])
-        × (slots + 1 ≤ 8 * count bytes.new.items)) }
+    ensures ok { OnOk result (AppendsBits bytes.old.items bytes.new.items slots 1 (bit ∷ [])) }
     ensures err { OnErr result (bytes.new.items ≡ bytes.old.items) }
 {
     make_room(bytes, slots)?;

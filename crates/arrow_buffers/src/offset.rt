@@ -1,5 +1,5 @@
 //! The two types of offsets.
-ghost use Rattle.std.specs.Prelude.{◌≡◌, ℕ, ◌^◌, ◌<◌, ◌≤◌, ◌↔◌, ℤ, pos, ◌≤ℤ◌, ◌<ℤ◌, Bool, true, false, IsTrue, MatchOption};
+ghost use Rattle.std.specs.Prelude.{◌≡◌, ℕ, ◌^◌, ◌<◌, ◌≤◌, ◌↔◌, ℤ, pos, ◌≤ℤ◌, ◌<ℤ◌, Bool, true, false, IsTrue, MatchOption, if◌then◌else◌, refl};
 ghost use Rattle.std.proofs.Common.{lit<, lit≤};
 
 /// An integer type of offsets: `i32`, or the large `i64`.
@@ -28,6 +28,8 @@ pub trait Offset: Copy {
     fn is_negative(self) -> bool
         ensures { IsTrue result ↔ (number self <ℤ pos 0) };
 
+    ghost limit_by_size: { limit ≡ (if IS_LARGE then 2 ^ 63 else 2 ^ 31) };
+
     ghost limit_range: { (0 < limit) × (limit ≤ 2 ^ 63) };
 
     ghost same_number: { (x y : Self) → number x ≡ number y → x ≡ y };
@@ -41,6 +43,8 @@ impl Offset for i32 {
     ghost number = { λ x. x };
 
     ghost limit = { 2 ^ 31 };
+
+    ghost limit_by_size = { refl };
 
     ghost limit_range = { (lit< tt, lit≤ tt) };
 
@@ -67,6 +71,8 @@ impl Offset for i64 {
     ghost number = { λ x. x };
 
     ghost limit = { 2 ^ 63 };
+
+    ghost limit_by_size = { refl };
 
     ghost limit_range = { (lit< tt, lit≤ tt) };
 

@@ -7,12 +7,13 @@ use crate::{Buffer, Mem, Offset, OffsetError, OffsetsBuffer};
 use std::alloc::{AllocError, Global};
 use std::marker::Model;
 
-/// Offsets that grow at their end, seen as their list: where each slot begins, and where the last one ends.
+/// Offsets that grow at their end, seen as their list: where each slot begins, and where the last
+/// one ends.
 pub struct Offsets<O: Offset> {
     items: Vec<O>,
 }
 
-/// By hand, so that each place where a value may end has one call to prove, and not the drop of every field.
+/// By hand: where a value may end there is one call to prove then, not the drop of each field.
 impl<O: Offset> Drop for Offsets<O> {
     fn drop(self) {
         let Offsets { items: _ } = self;
@@ -31,8 +32,8 @@ impl<O: Offset> Model for Offsets<O> {
 }
 
 impl<O: Offset> Offsets<O> {
-    /// The offsets of a vector; refused where there is none, where the first is negative, and where one is below the
-    /// one before it, in this order.
+    /// The offsets of a vector; refused where there is none, where the first is negative, and where
+    /// one is below the one before it, in this order.
     pub fn try_from_vec(items: Vec<O>) -> Result<Offsets<O>, OffsetError>
         ensures cases { MatchResult result
             (λ o. (o ≡ items.items) × AreOffsets O.limit (map O.number items.items))
@@ -120,6 +121,15 @@ impl<O: Offset> Offsets<O> {
         self.items.shrink_to_fit();
     }
 
+    /// An equal copy, with memory of its own.
+    pub fn try_clone(&self, alloc: Global) -> Mem<Offsets<O>>
+        ensures { IfOk result (λ o. o ≡ self.now) }
+    {
+        Ok(Offsets {
+            items: Vec::from_slice(alloc, self.items.as_slice())?,
+        })
+    }
+
     /// The same offsets, to be shared.
     pub fn freeze(self) -> Mem<OffsetsBuffer<O>>
         ensures { IfOk result (λ b. b ≡ self) }
@@ -195,7 +205,8 @@ impl<O: Offset> Offsets<O> {
             end_of (map O.number self.old) + (end_of window - first_of window) < O.limit) }
         ensures refused { IfErr result
             (λ e. let window = map O.number (take (len + 1) (drop start other.now)) in
-            IsGrowthRefusal e O.limit (end_of (map O.number self.old) + (end_of window - first_of window))) }
+            IsGrowthRefusal e O.limit
+            (end_of (map O.number self.old) + (end_of window - first_of window))) }
         ensures err { OnErr result (self.new ≡ self.old) }
     {
         let window = other.window(start, len);
@@ -251,16 +262,18 @@ fn offset_at<O: Offset>(n: usize) -> O
 fn offset_past<O: Offset>(last: O, length: usize) -> Option<O>
     requires { pos 0 ≤ℤ O.number last }
     ensures { MatchOption result (O.limit ≤ to_nat (O.number last) + length)
-        (λ o. (O.number o ≡ pos (to_nat (O.number last) + length)) × (to_nat (O.number last) + length < O.limit)) }
+        (λ o. (O.number o ≡ pos (to_nat (O.number last) + length))
+        × (to_nat (O.number last) + length < O.limit)) }
 {
     O::from_usize(last.to_usize().checked_add(length)?)
 }
 
-/// Where slots of these lengths end behind another offset, if there is such an offset.
+/// Where slots of these lengths end after another offset, if there is such an offset.
 fn end_past<O: Offset>(last: O, lengths: &[usize]) -> Option<O>
     requires { pos 0 ≤ℤ O.number last }
     ensures { MatchOption result (O.limit ≤ to_nat (O.number last) + sum lengths.now)
-        (λ o. (O.number o ≡ pos (to_nat (O.number last) + sum lengths.now)) × (to_nat (O.number last) + sum lengths.now < O.limit)) }
+        (λ o. (O.number o ≡ pos (to_nat (O.number last) + sum lengths.now))
+        × (to_nat (O.number last) + sum lengths.now < O.limit)) }
 {
     let mut total = last.to_usize();
     for length in lengths {
@@ -275,7 +288,8 @@ fn end_past<O: Offset>(last: O, lengths: &[usize]) -> Option<O>
 /// Appends where slots of these lengths end, of which the first begins at `start`.
 fn push_ends<O: Offset>(items: &mut Vec<O>, start: usize, lengths: &[usize]) -> Mem<()>
     requires { start + sum lengths.now < O.limit }
-    ensures ok { OnOk result (map O.number items.new.items ≡ map O.number items.old.items ++ ends start lengths.now) }
+    ensures ok { OnOk result
+        (map O.number items.new.items ≡ map O.number items.old.items ++ ends start lengths.now) }
     ensures err { OnErr result (items.new.items ≡ items.old.items) }
 {
     items.reserve(lengths.len())?;
@@ -291,7 +305,8 @@ fn push_ends<O: Offset>(items: &mut Vec<O>, start: usize, lengths: &[usize]) -> 
 fn push_moved<O: Offset>(items: &mut Vec<O>, first: usize, end: usize, others: &[O]) -> Mem<()>
     requires ascend { Ascend O.limit (pos first) (map O.number others.now) }
     requires fits { end + (end_from first (map O.number others.now) - first) < O.limit }
-    ensures ok { OnOk result (map O.number items.new.items ≡ map O.number items.old.items ++ moved first end (map O.number others.now)) }
+    ensures ok { OnOk result (map O.number items.new.items
+        ≡ map O.number items.old.items ++ moved first end (map O.number others.now)) }
     ensures err { OnErr result (items.new.items ≡ items.old.items) }
 {
     items.reserve(others.len())?;

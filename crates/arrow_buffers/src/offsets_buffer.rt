@@ -6,12 +6,13 @@ use crate::{Buffer, Mem, Offset};
 use std::alloc::Global;
 use std::marker::Model;
 
-/// Offsets that may be shared, seen as their list: where each slot begins, and where the last one ends.
+/// Offsets that may be shared, seen as their list: where each slot begins, and where the last one
+/// ends.
 pub struct OffsetsBuffer<O: Offset> {
     pub(crate) items: Buffer<O>,
 }
 
-/// By hand, so that each place where a value may end has one call to prove, and not the drop of every field.
+/// By hand: where a value may end there is one call to prove then, not the drop of each field.
 impl<O: Offset> Drop for OffsetsBuffer<O> {
     fn drop(self) {
         let OffsetsBuffer { items: _ } = self;

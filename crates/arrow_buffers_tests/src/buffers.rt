@@ -1,4 +1,5 @@
-//! What no clause says: that calls succeed with ample memory, and that the clauses mean what lists of bits do.
+//! What no clause says: that calls succeed with ample memory, and that the clauses mean what lists
+//! of bits do.
 ghost use Rattle.std.specs.Prelude.{◌+◌, ◌<◌, ◌≤◌, length as count};
 
 use arrow_buffers::{
@@ -401,5 +402,22 @@ fn growth_stops_at_the_greatest_offset(rt: HostRuntime) -> Mem<()> {
     assert!(rt;
         outcome_name::<()>(alloc, Err(OffsetError::OutOfMemory))?.as_str() == "OutOfMemory"
     );
+    Ok(())
+}
+
+/// Whether offsets grow by n slots.
+fn grow_by(alloc: Global, n: usize) -> Mem<bool> {
+    let mut grown = Offsets::<i32>::new(alloc)?;
+    let is_grown = grown.extend_constant(n).is_ok() && grown.len_proxy() == n;
+    drop(grown);
+    Ok(is_grown)
+}
+
+#[test]
+fn offsets_grow_by_each_small_count(rt: HostRuntime) -> Mem<()> {
+    for n in 0..10 {
+        let is_grown = grow_by(rt.alloc(), n)?;
+        assert!(rt; is_grown);
+    }
     Ok(())
 }

@@ -1,4 +1,4 @@
-//! What no clause of the buffers, bitmaps and offsets says: that calls succeed with ample memory, and that the clauses mean what lists do.
+//! Tests of buffers, bitmaps and offsets: what no clause of theirs says.
 #![tactic(auto)]
 
 #[cfg(test)]

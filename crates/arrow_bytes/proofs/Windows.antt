@@ -1,25 +1,32 @@
 -- Windows of offsets, and of the slots between them.
-use Rattle.std.proofs.Common.{◌≡◌, ℕ, zero, suc, ◌+◌, ◌-◌, ◌<◌, ◌≤◌, ℤ, pos, negsuc, List, [], ◌∷◌, map, length, take, drop, ap, sym, ◌∙◌, subst, arith}
-use Rattle.std.specs.Prelude.{pred, IsUtf8}
+use Rattle.std.proofs.Common.{◌≡◌, Bool, true, false, Option, Some, None, get_or, slice_get, ℕ, zero, suc, ◌+◌, ◌-◌, ◌<◌, ◌≤◌, ℤ, pos, negsuc, List, [], ◌∷◌, map, length, take, drop, ap, sym, ◌∙◌, subst, arith}
+use Rattle.std.specs.Prelude.{pred, IsUtf8, IfSome}
 use Rattle.std.specs.Str.{IsCharBoundary}
 use Rattle.std.proofs.lemmas.Int.{ints}
 use Rattle.std.proofs.lemmas.Str.{IsUtf8-between}
 use Rattle.std.proofs.lemmas.List.{take-map, drop-map, length-map}
-use Rattle.arrow_buffers.specs.Offsets.{to_nat, Ascend, AreOffsets, first_of, end_from, end_of}
+use Rattle.arrow_buffers.specs.Bits.{Bits}
+use Rattle.arrow_buffers.specs.Offsets.{Ascend, AreOffsets, first_of, end_from, end_of}
 use Rattle.arrow_buffers.proofs.Ascending.{end_reaches}
 use Rattle.arrow_buffers.proofs.Windows.{window_again, window_length}
-use Rattle.arrow_bytes.specs.Binaries.{Binaries, values_of}
-use Rattle.arrow_flat.specs.Pieces.{pieces}
-use Rattle.arrow_flat.specs.Primitives.{MaskHasLength}
-use Rattle.arrow_flat.proofs.Pieces.{pieces_count, below_pred, before_pred}
+use Rattle.arrow_bytes.specs.Binaries.{Binaries, AreTextsIf, slot_count, values_between, values_of}
+use Rattle.arrow_flat.specs.Pieces.{AreTexts}
+use Rattle.arrow_flat.specs.Primitives.{MaskHasLength, HasBit}
+use Rattle.arrow_flat.proofs.Texts.{texts_window}
+use Rattle.arrow_flat.proofs.Pieces.{pieces_count}
 
 pub one_before : (n k : ℕ) → n + 1 ≡ k → n ≡ pred k
 one_before n zero h = absurd (omega arith)
 one_before n (suc k) h = omega arith
 
-behind_pred : (n i : ℕ) → i < pred n → i + 1 < n
-behind_pred zero i l = absurd (omega arith)
-behind_pred (suc n) i l = omega arith
+-- the slot of a place, and the two offsets around it
+pub offset_after : (n i : ℕ) → i < pred n → i + 1 < n
+offset_after zero i l = absurd (omega arith)
+offset_after (suc n) i l = omega arith
+
+pub within_count : (n k r : ℕ) → n ≤ pred k → r + 1 ≡ k → n < k
+within_count n zero r l h = absurd (omega arith)
+within_count n (suc k) r l h = omega arith
 
 ascends : (limit : ℕ) (os : List ℤ) → AreOffsets limit os → Ascend limit (pos 0) os
 ascends limit [] h = absurd h
@@ -70,29 +77,41 @@ module _ {O : Type 0} (number : O → ℤ) where
       sym (take-map number n (drop o os)) ∙ ap (take n) (sym (drop-map number o os)) in
       subst (λ xs. end_of xs ≤ end_of (map number os)) (sym e) (end_window_from limit 0 o n (map number os) (ascends limit (map number os) h))
 
-  pub window_slots : (o n : ℕ) (os : List O) → o + n < length os → pred (length (map number (take (n + 1) (drop o os)))) ≡ n
+  pub window_slots : (o n : ℕ) (os : List O) → o + n < length os → pred (length (take (n + 1) (drop o os))) ≡ n
   window_slots o n os h =
       let q : n + 1 ≡ suc n = omega arith in
-      ap pred (length-map (take (n + 1) (drop o os)) number ∙ sym (window_length os o (n + 1) (omega arith)) ∙ q)
+      ap pred (sym (window_length os o (n + 1) (omega arith)) ∙ q)
 
-  pub window_within : (o n : ℕ) (os : List O) → o + n < length os → o + n ≤ pred (length (map number os))
-  window_within o n os h = below_pred (length (map number os)) (o + n) (subst (λ k. o + n < k) (sym (length-map os number)) h)
-
-  pub fits_values : (a : Binaries O) → MaskHasLength a.mask (pred (length (map number a.offsets))) → MaskHasLength a.mask (length (values_of number a))
-  fits_values a h = subst (MaskHasLength a.mask) (sym (pieces_count (map number a.offsets) a.values)) h
-
-  pub within_values : (a : Binaries O) (i : ℕ) → i + 1 < length a.offsets → i < length (values_of number a)
-  within_values a i h =
-      subst (λ k. i < k) (sym (pieces_count (map number a.offsets) a.values))
-      (before_pred (length (map number a.offsets)) i (subst (λ k. i + 1 < k) (sym (length-map a.offsets number)) h))
-
-  pub values_count : (a : Binaries O) → length (values_of number a) ≡ pred (length a.offsets)
+  pub values_count : (a : Binaries O) → length (values_of number a) ≡ slot_count a
   values_count a = pieces_count (map number a.offsets) a.values ∙ ap pred (length-map a.offsets number)
 
-  pub behind_values : (a : Binaries O) (i : ℕ) → i < length (values_of number a) → i + 1 < length a.offsets
-  behind_values a i h = behind_pred (length a.offsets) i (subst (λ k. i < k) (values_count a) h)
+  pub fits_values : (a : Binaries O) → MaskHasLength a.mask (slot_count a) → MaskHasLength a.mask (length (values_of number a))
+  fits_values a h = subst (MaskHasLength a.mask) (sym (values_count a)) h
 
-  pub slots_count : (os : List O) (xs : List ℕ) (n : ℕ) → n + 1 ≡ length os → length (pieces (map to_nat (map number os)) xs) ≡ n
+  pub slots_count : (os : List O) (xs : List ℕ) (n : ℕ) → n + 1 ≡ length os → length (values_between number os xs) ≡ n
   slots_count os xs n h =
       let q : n + 1 ≡ suc n = omega arith in
       pieces_count (map number os) xs ∙ ap pred (length-map os number ∙ sym h ∙ q)
+
+  pub texts_window_if : (text : Bool) (o n : ℕ) (os : List O) (xs : List ℕ) → AreTextsIf text (values_between number os xs)
+      → AreTextsIf text (values_between number (take (n + 1) (drop o os)) xs)
+  texts_window_if true o n os xs h = texts_window number o n os xs h
+  texts_window_if false o n os xs h = tt
+
+-- ---- the bit of a slot
+
+pub has_bit : (m : Option Bits) (n i : ℕ) → MaskHasLength m n → i < n → HasBit m i
+has_bit None n i h l = tt
+has_bit (Some b) n i h l = subst (λ k. i < k) (sym h) l
+
+-- ---- single strings
+
+pub text_of_get : (xs : List (List ℕ)) (k : ℕ) → k < length xs → IfSome (slice_get xs k) IsUtf8 → IsUtf8 (get_or xs k [])
+text_of_get [] k l h = absurd (omega arith)
+text_of_get (x ∷ xs) zero l h = h
+text_of_get (x ∷ xs) (suc k) l h = text_of_get xs k (omega arith) h
+
+pub text_if_some : (xs : List (List ℕ)) (k : ℕ) → AreTexts xs → IfSome (slice_get xs k) IsUtf8
+text_if_some [] k h = tt
+text_if_some (x ∷ xs) zero h = h.0
+text_if_some (x ∷ xs) (suc k) h = text_if_some xs k h.1

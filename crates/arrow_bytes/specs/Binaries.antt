@@ -1,16 +1,18 @@
--- What a contract sees of an array of byte strings, given the number of an offset.
-use Rattle.std.specs.Prelude.{ℕ, pred, suc, ◌-◌, ◌≤◌, ℤ, Bool, true, false, List, length, map, take, drop, Option}
+-- What a contract sees of an array of binary values or strings, given the number of an offset.
+use Rattle.std.specs.Prelude.{◌≡◌, ℕ, pred, suc, ◌≤◌, ℤ, Bool, true, false, List, length, map, take, drop, Option, Some, ⊤}
 use Rattle.arrow_buffers.specs.Bits.{Bits}
 use Rattle.arrow_buffers.specs.Offsets.{to_nat, end_of}
+use Rattle.arrow_types.specs.Seen.{seen}
+use Rattle.arrow_types.specs.Types.{physical_of}
 use Rattle.arrow_types.specs.declared.datatype.ArrowDataType.{ArrowDataType}
 use Rattle.arrow_types.specs.declared.datatype.PhysicalType.{PhysicalType}
 use Rattle.arrow_types.specs.declared.datatype.PhysicalType.TheVariants as physical
 use Rattle.arrow_types.specs.declared.error.PolarsError.{PolarsError}
 use Rattle.arrow_types.specs.declared.error.PolarsError.TheVariants.{ComputeError}
 use Rattle.arrow_types.specs.declared.error.Reason.{Reason}
-use Rattle.arrow_types.specs.declared.error.Reason.TheVariants.{OffsetPastValues}
-use Rattle.arrow_flat.specs.Pieces.{pieces}
-use Rattle.arrow_flat.specs.Primitives.{IsArray, window_mask, half_mask, masked_values}
+use Rattle.arrow_types.specs.declared.error.Reason.TheVariants.{OffsetPastValues, NotUtf8}
+use Rattle.arrow_flat.specs.Pieces.{pieces, AreTexts}
+use Rattle.arrow_flat.specs.Primitives.{IsLaidOut, IsArray, MaskHasLength, cut_mask, masked_values}
 use Rattle.arrow_flat.specs.Refusals as flat
 
 -- the type, the offsets, the bytes of all slots, and the mask
@@ -20,48 +22,79 @@ pub record Binaries (O : Type 0) : Type 0 where
   pub values : List ℕ
   pub mask : Option Bits
 
--- The layout of byte strings, by whether the offsets are large.
-abbrev pub physical_binary : Bool → PhysicalType
-physical_binary true = physical.LargeBinary
-physical_binary false = physical.Binary
+-- The physical type of strings or of binary values, by whether the offsets are large.
+abbrev pub layout_in : Bool → Bool → PhysicalType
+layout_in true true = physical.LargeUtf8
+layout_in true false = physical.Utf8
+layout_in false true = physical.LargeBinary
+layout_in false false = physical.Binary
 
-abbrev pub physical_utf8 : Bool → PhysicalType
-physical_utf8 true = physical.LargeUtf8
-physical_utf8 false = physical.Utf8
-
--- What every such array keeps: a slot for each offset but the last, which lies within the bytes.
-pub record IsSound (layout : PhysicalType) (t : ArrowDataType) (m : Option Bits) (offsets : List ℤ) (bytes : ℕ) : Type 0 where
-  pub array : IsArray layout t m (pred (length offsets))
-  pub within : end_of offsets ≤ bytes
-
--- the last offset is looked at first
-abbrev pub RefusedFor : Reason → PhysicalType → ArrowDataType → Option Bits → List ℤ → ℕ → Type 0
-RefusedFor OffsetPastValues layout t m offsets bytes = end_of offsets ≤ bytes → ⊥
-RefusedFor reason layout t m offsets bytes = (end_of offsets ≤ bytes) × flat.RefusedFor reason layout t m (pred (length offsets))
-
--- no memory is taken, so none is wanted
-abbrev pub Refused : PolarsError → PhysicalType → ArrowDataType → Option Bits → List ℤ → ℕ → Type 0
-Refused (ComputeError reason) layout t m offsets bytes = RefusedFor reason layout t m offsets bytes
-Refused _ layout t m offsets bytes = ⊥
+-- Each value is UTF-8, where they are strings.
+abbrev pub AreTextsIf : Bool → List (List ℕ) → Type 0
+AreTextsIf true values = AreTexts values
+AreTextsIf false values = ⊤
 
 module _ {O : Type 0} where
+  -- How many slots there are: one for each offset but the last.
+  abbrev pub slot_count : Binaries O → ℕ
+  slot_count a = pred (length a.offsets)
+
   -- The array of n slots from `offset` on, of the same bytes.
   abbrev pub cut : Binaries O → ℕ → ℕ → Binaries O
-  cut a offset n = record { dtype = a.dtype; offsets = take (suc n) (drop offset a.offsets); values = a.values; mask = window_mask a.mask offset n }
+  cut a offset n = record {
+    dtype = a.dtype;
+    offsets = take (suc n) (drop offset a.offsets);
+    values = a.values;
+    mask = cut_mask offset n a.mask;
+  }
 
-  -- The same, of which a mask without an unset bit goes.
-  abbrev pub half : Binaries O → ℕ → ℕ → Binaries O
-  half a offset n = record { dtype = a.dtype; offsets = take (suc n) (drop offset a.offsets); values = a.values; mask = half_mask a.mask offset n }
-
-  abbrev pub front : Binaries O → ℕ → Binaries O
-  front a n = half a 0 n
-
-  abbrev pub rest : Binaries O → ℕ → Binaries O
-  rest a n = half a n (pred (length a.offsets) - n)
+  -- The array with another mask, or none.
+  abbrev pub with_mask : Option Bits → Binaries O → Binaries O
+  with_mask m a = record { dtype = a.dtype; offsets = a.offsets; values = a.values; mask = m }
 
   module _ (number : O → ℤ) where
+    -- The bytes from each offset to the next.
+    abbrev pub values_between : List O → List ℕ → List (List ℕ)
+    values_between offsets values = pieces (map to_nat (map number offsets)) values
+
     abbrev pub values_of : Binaries O → List (List ℕ)
-    values_of a = pieces (map to_nat (map number a.offsets)) a.values
+    values_of a = values_between a.offsets a.values
 
     abbrev pub slots : Binaries O → List (Option (List ℕ))
     slots a = masked_values a.mask (values_of a)
+
+    -- The last offset is within the bytes.
+    abbrev pub EndsWithin : List O → List ℕ → Type 0
+    EndsWithin offsets values = end_of (map number offsets) ≤ length values
+
+-- What every such array keeps: a mask for its slots and a type that is stored so, the last offset
+-- within the bytes, and UTF-8 where it has strings.
+pub record PartsFit (text large : Bool) {O : Type 0} (number : O → ℤ) (a : Binaries O) : Type 0 where
+  pub laid_out : IsLaidOut (layout_in text large) a.dtype a.mask (slot_count a)
+  pub within : EndsWithin number a.offsets a.values
+  pub texts : AreTextsIf text (values_of number a)
+
+-- The same with what the mask and the type keep.
+pub record IsSound (text large : Bool) {O : Type 0} (number : O → ℤ) (a : Binaries O) : Type 0 where
+  pub array : IsArray (layout_in text large) a.dtype a.mask (slot_count a)
+  pub within : EndsWithin number a.offsets a.values
+  pub texts : AreTextsIf text (values_of number a)
+
+module _ (text large : Bool) {O : Type 0} (number : O → ℤ) where
+  -- Why the parts of this array are refused: the last offset is tested first, and the strings last,
+  -- each of them, those under nulls too.
+  abbrev pub RefusedFor : Reason → Binaries O → Type 0
+  RefusedFor OffsetPastValues a = EndsWithin number a.offsets a.values → ⊥
+  RefusedFor NotUtf8 a =
+      EndsWithin number a.offsets a.values
+      × MaskHasLength a.mask (slot_count a)
+      × (physical_of (seen a.dtype) ≡ Some (layout_in text large))
+      × (AreTextsIf text (values_of number a) → ⊥)
+  RefusedFor reason a =
+      EndsWithin number a.offsets a.values
+      × flat.RefusedFor reason (layout_in text large) a.dtype a.mask (slot_count a)
+
+  -- never out of memory, since none is taken
+  abbrev pub Refused : PolarsError → Binaries O → Type 0
+  Refused (ComputeError reason) a = RefusedFor reason a
+  Refused _ a = ⊥

@@ -1,5 +1,5 @@
 -- What a contract sees of an array of byte strings of one size.
-use Rattle.std.specs.Prelude.{◌≡◌, ℕ, ◌-◌, ◌*◌, ◌/◌, ◌%◌, ◌<◌, List, length, take, drop, Option, Some, None}
+use Rattle.std.specs.Prelude.{◌≡◌, ℕ, ◌*◌, ◌/◌, ◌%◌, ◌<◌, List, length, take, drop, Option, Some, None}
 use Rattle.std.specs.Option.{unwrap_or}
 use Rattle.arrow_buffers.specs.Bits.{Bits}
 use Rattle.arrow_types.specs.Carried.{IsCarried}
@@ -11,7 +11,7 @@ use Rattle.arrow_types.specs.declared.error.PolarsError.{PolarsError}
 use Rattle.arrow_types.specs.declared.error.PolarsError.TheVariants.{ComputeError}
 use Rattle.arrow_types.specs.declared.error.Reason.{Reason}
 use Rattle.arrow_types.specs.declared.error.Reason.TheVariants.{MaskLength, WrongLogicalType, NotCarried, NotMultiple}
-use Rattle.arrow_flat.specs.Primitives.{MaskHasLength, IsLed, window_mask, half_mask, masked_values}
+use Rattle.arrow_flat.specs.Primitives.{MaskHasLength, IsLed, cut_mask, masked_values}
 use Rattle.arrow_flat.specs.Pieces.{chunks}
 
 -- the type, the size of a value, the bytes of all slots, and the mask
@@ -31,15 +31,6 @@ declared_size _ = None
 abbrev pub size_or_zero : TypeData → ℕ
 size_or_zero t = unwrap_or (declared_size t) 0
 
--- What every such array keeps.
-pub record IsSound (t : ArrowDataType) (k : ℕ) (m : Option Bits) (n : ℕ) : Type 0 where
-  pub sized : declared_size (seen t) ≡ Some k
-  pub positive : 0 < k
-  pub multiple : n % k ≡ 0
-  pub fits : MaskHasLength m (n / k)
-  pub led : IsLed m
-  pub carried : IsCarried (seen t)
-
 -- How many slots there are.
 abbrev pub slot_count : FixedSizeBinaries → ℕ
 slot_count a = length a.values / a.size
@@ -52,17 +43,33 @@ slots a = masked_values a.mask (values_of a)
 
 -- The array of n slots from `offset` on.
 abbrev pub cut : FixedSizeBinaries → ℕ → ℕ → FixedSizeBinaries
-cut a offset n = record { dtype = a.dtype; size = a.size; values = take (n * a.size) (drop (offset * a.size) a.values); mask = window_mask a.mask offset n }
+cut a offset n = record {
+  dtype = a.dtype;
+  size = a.size;
+  values = take (n * a.size) (drop (offset * a.size) a.values);
+  mask = cut_mask offset n a.mask;
+}
 
--- The same, of which a mask without an unset bit goes.
-abbrev pub half : FixedSizeBinaries → ℕ → ℕ → FixedSizeBinaries
-half a offset n = record { dtype = a.dtype; size = a.size; values = take (n * a.size) (drop (offset * a.size) a.values); mask = half_mask a.mask offset n }
+-- The array with another mask, or none.
+abbrev pub with_mask : Option Bits → FixedSizeBinaries → FixedSizeBinaries
+with_mask m a = record { dtype = a.dtype; size = a.size; values = a.values; mask = m }
 
-abbrev pub front : FixedSizeBinaries → ℕ → FixedSizeBinaries
-front a n = half a 0 n
+-- What every such array keeps: its type declares the size, which isn't 0 and divides the count of
+-- bytes, and a mask has one bit a slot.
+pub record PartsFit (a : FixedSizeBinaries) : Type 0 where
+  pub sized : declared_size (seen a.dtype) ≡ Some a.size
+  pub positive : 0 < a.size
+  pub multiple : length a.values % a.size ≡ 0
+  pub fits : MaskHasLength a.mask (slot_count a)
 
-abbrev pub rest : FixedSizeBinaries → ℕ → FixedSizeBinaries
-rest a n = half a n (slot_count a - n)
+-- The same with what the mask and the type keep.
+pub record IsSound (a : FixedSizeBinaries) : Type 0 where
+  pub sized : declared_size (seen a.dtype) ≡ Some a.size
+  pub positive : 0 < a.size
+  pub multiple : length a.values % a.size ≡ 0
+  pub fits : MaskHasLength a.mask (slot_count a)
+  pub led : IsLed a.mask
+  pub carried : IsCarried (seen a.dtype)
 
 -- Why parts are refused, of which the type declares this size: the first test that fails.
 abbrev pub RefusedAt : Reason → Option ℕ → Option Bits → ℕ → Type 0
@@ -72,7 +79,7 @@ RefusedAt NotMultiple (Some k) m n = (0 < k) × (n % k ≡ 0 → ⊥)
 RefusedAt MaskLength (Some k) m n = (0 < k) × (n % k ≡ 0) × (MaskHasLength m (n / k) → ⊥)
 RefusedAt _ size m n = ⊥
 
--- no memory is taken, so none is wanted
+-- never out of memory, since none is taken
 abbrev pub Refused : PolarsError → ArrowDataType → Option Bits → ℕ → Type 0
 Refused (ComputeError reason) t m n = RefusedAt reason (declared_size (seen t)) m n
 Refused _ t m n = ⊥

@@ -1,3 +1,2 @@
 pub mod Binaries
 pub mod FixedSizeBinaries
-pub mod Texts

@@ -1,23 +1,20 @@
-//! Arrays of byte strings of one size under a mask.
+//! Arrays of binary values of one size under a mask.
 ghost use Rattle.std.specs.Prelude.{◌≡◌, ◌+◌, ◌*◌, ◌/◌, ◌%◌, ◌<◌, ◌≤◌, length as count, take, drop, slice_get, not, Some, MatchResult, IfOk};
 ghost use Rattle.arrow_types.specs.Seen.{seen};
 ghost use Rattle.std.specs.Option.{option_copied};
 ghost use Rattle.arrow_flat.specs.Primitives.{MaskHasLength, valid_at, unset_in};
-ghost use Rattle.arrow_bytes.specs.FixedSizeBinaries.{FixedSizeBinaries, IsSound, Refused, size_or_zero, slot_count, values_of, slots, cut, half};
+ghost use Rattle.arrow_bytes.specs.FixedSizeBinaries.{PartsFit, IsSound, Refused, declared_size, size_or_zero, slot_count, values_of, slots, cut, with_mask};
 
-use crate::stored::{know_sized, size_of_values};
 use arrow_buffers::{Bitmap, Buffer};
-use arrow_flat::validity::{
-    clone_mask, drop_unneeded, is_valid, know_led, mask_fits, null_count, slice_mask,
-};
-use arrow_flat::{BytesIter, BytesValuesIter, LentBytes, Splitable, TryClone};
+use arrow_flat::validity::{self, clone_mask, is_valid, mask_fits, null_count, slice_mask};
+use arrow_flat::{ArrayAccessor, ArrayIter, ArrayValuesIter, ByteString, Splitable, TryClone};
 use arrow_types::{ArrowDataType, Mem, PolarsError, PolarsResult, Reason};
 use std::alloc::Global;
 use std::marker::Model;
 
-/// An array of byte strings of one size, seen as its type, the size, its bytes and its mask.
+/// An array of binary values of one size, seen as its type, the size, its bytes and its mask.
 ///
-/// The Arrow Columnar Format's fixed-size primitive layout, of byte strings.
+/// The Arrow Columnar Format's fixed-size primitive layout, of binary values.
 pub struct FixedSizeBinaryArray {
     dtype: ArrowDataType,
     size: usize,
@@ -25,7 +22,8 @@ pub struct FixedSizeBinaryArray {
     validity: Option<Bitmap>,
 }
 
-/// By hand, so that each place where a value may end has one call to prove, and not the drop of every field.
+/// By hand: a place where a value may end then has one call to prove, and not the drop of each
+/// field.
 impl Drop for FixedSizeBinaryArray {
     fn drop(self) {
         let FixedSizeBinaryArray {
@@ -38,24 +36,34 @@ impl Drop for FixedSizeBinaryArray {
 }
 
 impl Model for FixedSizeBinaryArray {
-    ghost use Rattle.std.specs.Prelude.{length};
     ghost use Rattle.std.specs.Coded.{codes};
     ghost use Rattle.arrow_types.specs.contracts.datatype.ArrowDataType as data_type;
-    ghost use Rattle.arrow_bytes.specs.FixedSizeBinaries.{FixedSizeBinaries, IsSound};
+    ghost use Rattle.arrow_bytes.specs.FixedSizeBinaries.{FixedSizeBinaries, PartsFit};
 
     ghost Value = { FixedSizeBinaries };
 
     ghost coded = { Prim.hlevel (codes, data_type.the_row.coded) };
 
-    ghost view = { λ a. record { dtype = a.dtype; size = a.size; values = a.values; mask = a.validity } };
+    ghost view = { λ a. record {
+      dtype = a.dtype;
+      size = a.size;
+      values = a.values;
+      mask = a.validity;
+    } };
 
-    ghost invariant = { λ a. IsSound a.dtype a.size a.validity (length a.values) };
+    ghost invariant = { λ a. PartsFit record {
+      dtype = a.dtype;
+      size = a.size;
+      values = a.values;
+      mask = a.validity;
+    } };
 }
 
 impl FixedSizeBinaryArray {
-    /// The array of these parts, whose type tells the size. Refused as ComputeError: WrongLogicalType where the type is another,
-    /// then NotCarried where the size is 0, then NotMultiple where the size doesn't divide the count of bytes, then MaskLength
-    /// where a mask is there and hasn't one bit a value.
+    /// The array of these parts, whose type tells the size. Refused as ComputeError:
+    /// WrongLogicalType where the type is another, then NotCarried where the size is 0, then
+    /// NotMultiple where the size doesn't divide the count of bytes, then MaskLength where a mask
+    /// is there and hasn't one bit a value.
     ///
     /// Takes no memory.
     pub fn try_new(
@@ -64,10 +72,15 @@ impl FixedSizeBinaryArray {
         validity: Option<Bitmap>,
     ) -> PolarsResult<FixedSizeBinaryArray>
         ensures { MatchResult result
-            (λ a. (a ≡ record { dtype = dtype; size = a.size; values = values; mask = validity }) × IsSound dtype a.size validity (count values))
+            (λ a. PartsFit a × (a ≡ record {
+              dtype = dtype;
+              size = a.size;
+              values = values;
+              mask = validity;
+            }))
             (λ e. Refused e dtype validity (count values)) }
     {
-        let Some(size) = size_of_values(&dtype) else {
+        let Some(size) = FixedSizeBinaryArray::maybe_get_size(&dtype) else {
             return Err(PolarsError::ComputeError(Reason::WrongLogicalType));
         };
         if size == 0 {
@@ -79,7 +92,6 @@ impl FixedSizeBinaryArray {
         if !mask_fits(&validity, values.len() / size) {
             return Err(PolarsError::ComputeError(Reason::MaskLength));
         }
-        know_sized(&dtype, size);
         Ok(FixedSizeBinaryArray {
             dtype,
             size,
@@ -88,8 +100,8 @@ impl FixedSizeBinaryArray {
         })
     }
 
-    /// The array of parts that fit together: the type is one of values of one size that isn't 0, the size divides the count of bytes,
-    /// and a mask has one bit a value.
+    /// The array of parts that fit together: the type is one of values of one size that isn't 0,
+    /// the size divides the count of bytes, and a mask has one bit a value.
     ///
     /// Takes no memory.
     pub fn new(
@@ -100,13 +112,16 @@ impl FixedSizeBinaryArray {
         requires positive { 0 < size_or_zero (seen dtype) }
         requires multiple { count values % size_or_zero (seen dtype) ≡ 0 }
         requires fits { MaskHasLength validity (count values / size_or_zero (seen dtype)) }
-        ensures { result ≡ record { dtype = dtype; size = size_or_zero (seen dtype); values = values; mask = validity } }
+        ensures { result ≡ record {
+          dtype = dtype;
+          size = size_or_zero (seen dtype);
+          values = values;
+          mask = validity;
+        } }
     {
-        let Some(size) = size_of_values(&dtype) else {
+        let Some(size) = FixedSizeBinaryArray::maybe_get_size(&dtype) else {
             unreachable!();
         };
-        know_led(&validity);
-        know_sized(&dtype, size);
         FixedSizeBinaryArray {
             dtype,
             size,
@@ -115,10 +130,32 @@ impl FixedSizeBinaryArray {
         }
     }
 
+    /// The size in bytes that a type of binary values of one size declares, through extensions;
+    /// None for another type.
+    #[tactic(auto, using(arrow_flat::proofs::TypeViews::seen_types))]
+    pub fn maybe_get_size(dtype: &ArrowDataType) -> Option<usize>
+        ensures { result ≡ declared_size (seen dtype.now) }
+    {
+        match dtype {
+            ArrowDataType::FixedSizeBinary(size) => Some(*size),
+            ArrowDataType::Extension(extension) => {
+                FixedSizeBinaryArray::maybe_get_size(&extension.get().inner)
+            }
+            _ => None,
+        }
+    }
+
+    /// For proofs alone: what the array keeps.
+    pub fn invariant(&self)
+        ensures { IsSound self.now }
+    {
+        validity::invariant(&self.validity);
+        let _size = self.size;
+    }
+
     /// The whole type, extensions included.
     pub fn dtype(&self) -> &ArrowDataType
-        ensures value { result.now ≡ self.now.dtype }
-        ensures sound { IsSound self.now.dtype self.now.size self.now.mask (count self.now.values) }
+        ensures { result.now ≡ self.now.dtype }
     {
         &self.dtype
     }
@@ -183,34 +220,31 @@ impl FixedSizeBinaryArray {
         null_count(&self.validity)
     }
 
-    /// The value at a slot, None where it is null.
+    /// The value at a slot, `None` where it is null.
     pub fn get(&self, i: usize) -> Option<&[u8]>
         requires { i < slot_count self.now }
         ensures { slice_get (slots self.now) i ≡ Some (option_copied result) }
     {
-        let _ = &self.validity;
-        if self.is_valid(i) {
-            Some(self.value(i))
-        } else {
-            None
-        }
+        ArrayAccessor::get(self, i)
     }
 
-    /// Each slot in order, None for a null, from both ends.
-    pub fn iter(&self) -> BytesIter<'_, FixedSizeBinaryArray>
+    /// Each slot in order, `None` for a null, from both ends.
+    pub fn iter(&self) -> ArrayIter<&FixedSizeBinaryArray, &[u8], ByteString>
         ensures { result ≡ slots self.now }
     {
-        BytesIter::new(self)
+        ArrayIter::new(self)
     }
 
     /// Each value in order, those under nulls too, from both ends.
-    pub fn values_iter(&self) -> BytesValuesIter<'_, FixedSizeBinaryArray>
+    pub fn values_iter(&self) -> ArrayValuesIter<&FixedSizeBinaryArray, &[u8], ByteString>
         ensures { result ≡ values_of self.now }
     {
-        BytesValuesIter::new(self)
+        ArrayValuesIter::new(self)
     }
 
-    /// Keeps the `length` slots from `offset` on.
+    /// Keeps the `length` slots from `offset` on; a mask without nulls is dropped.
+    ///
+    /// Takes no memory; counts the mask's bits.
     pub fn slice(&mut self, offset: usize, length: usize)
         requires { offset + length ≤ slot_count self.old }
         ensures { self.new ≡ cut self.old offset length }
@@ -219,27 +253,15 @@ impl FixedSizeBinaryArray {
         slice_chunks(&mut self.values, self.size, offset, length);
     }
 
-    /// A copy of the `length` slots from `offset` on, whose mask goes where none of them is null.
-    fn half(&self, alloc: Global, offset: usize, length: usize) -> Mem<FixedSizeBinaryArray>
-        requires { offset + length ≤ slot_count self.now }
-        ensures { IfOk result (λ a. a ≡ half self.now offset length) }
-    {
-        let mut half = FixedSizeBinaryArray::try_clone(self, alloc)?;
-        half.slice(offset, length);
-        drop_unneeded(&mut half.validity);
-        Ok(half)
-    }
-
     /// Puts another mask, or none, in the mask's place.
     pub fn set_validity(&mut self, validity: Option<Bitmap>)
         requires { MaskHasLength validity (slot_count self.old) }
-        ensures { self.new ≡ record { dtype = self.old.dtype; size = self.old.size; values = self.old.values; mask = validity } }
+        ensures { self.new ≡ with_mask validity self.old }
     {
-        know_led(&validity);
         self.validity = validity;
     }
 
-    /// Another owner of the same values and mask.
+    /// A shared copy.
     pub fn try_clone(&self, alloc: Global) -> Mem<FixedSizeBinaryArray>
         ensures { IfOk result (λ a. a ≡ self.now) }
     {
@@ -252,25 +274,32 @@ impl FixedSizeBinaryArray {
     }
 }
 
-impl LentBytes for FixedSizeBinaryArray {
-    ghost use Rattle.arrow_bytes.specs.FixedSizeBinaries.{values_of};
+impl<'a> ArrayAccessor<&'a [u8], ByteString> for &'a FixedSizeBinaryArray {
+    ghost use Rattle.std.specs.Prelude.{refl};
 
-    ghost values = { values_of };
+    ghost seen = { λ x. x.now };
 
-    ghost mask = { λ a. a.mask };
+    ghost seen_slot = { option_copied };
 
-    fn count_slots(&self) -> usize {
-        let _ = &self.validity;
-        self.len()
+    ghost values = { λ a. values_of a.now };
+
+    ghost mask = { λ a. a.now.mask };
+
+    fn len(self) -> usize {
+        self.values.len() / self.size
     }
 
-    fn value_bytes(&self, i: usize) -> &[u8] {
-        self.value(i)
+    fn is_valid(self, i: usize) -> bool {
+        is_valid(&self.validity, i)
     }
 
-    fn get_bytes(&self, i: usize) -> Option<&[u8]> {
-        self.get(i)
+    fn value(self, i: usize) -> &'a [u8] {
+        FixedSizeBinaryArray::value(self, i)
     }
+
+    ghost of_value = { λ x. refl };
+
+    ghost of_null = { refl };
 }
 
 impl TryClone for FixedSizeBinaryArray {
@@ -280,14 +309,14 @@ impl TryClone for FixedSizeBinaryArray {
 }
 
 impl Splitable for FixedSizeBinaryArray {
-    ghost use Rattle.std.specs.Prelude.{◌≤◌};
-    ghost use Rattle.arrow_bytes.specs.FixedSizeBinaries.{slot_count, front, rest};
+    ghost use Rattle.std.specs.Prelude.{◌≤◌, ◌-◌};
+    ghost use Rattle.arrow_bytes.specs.FixedSizeBinaries.{slot_count, cut};
 
     ghost HasBound = { λ a n. n ≤ slot_count a };
 
-    ghost front = { front };
+    ghost front = { λ a n. cut a 0 n };
 
-    ghost rest = { rest };
+    ghost rest = { λ a n. cut a n (slot_count a - n) };
 
     fn check_bound(&self, offset: usize) -> bool {
         offset <= self.len()
@@ -298,8 +327,10 @@ impl Splitable for FixedSizeBinaryArray {
         alloc: Global,
         offset: usize,
     ) -> Mem<(FixedSizeBinaryArray, FixedSizeBinaryArray)> {
-        let front = self.half(alloc, 0, offset)?;
-        let rest = self.half(alloc, offset, self.len() - offset)?;
+        let mut front = FixedSizeBinaryArray::try_clone(self, alloc)?;
+        front.slice(0, offset);
+        let mut rest = FixedSizeBinaryArray::try_clone(self, alloc)?;
+        rest.slice(offset, self.len() - offset);
         Ok((front, rest))
     }
 }

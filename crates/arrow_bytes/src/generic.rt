@@ -1,9 +1,11 @@
-//! What arrays of byte strings and of texts have in common.
-ghost use Rattle.std.specs.Prelude.{◌≡◌, ◌≤◌, ℕ, List, length, map};
-ghost use Rattle.arrow_buffers.specs.Offsets.{AreOffsets, end_of};
+//! What arrays of binary values and of strings have in common.
+ghost use Rattle.std.specs.Prelude.{◌≡◌, ℕ, List, map};
+ghost use Rattle.arrow_buffers.specs.Offsets.{AreOffsets};
+ghost use Rattle.arrow_bytes.specs.Binaries.{EndsWithin};
 
-use crate::{BinaryArray, Utf8Array};
+use crate::OffsetArray;
 use arrow_buffers::Offset;
+use arrow_flat::ViewType;
 
 /// An array whose slots are the bytes from each offset to the next.
 pub trait GenericBinaryArray<O: Offset> {
@@ -19,35 +21,20 @@ pub trait GenericBinaryArray<O: Offset> {
     fn offsets(&self) -> &[O]
         ensures value { result.now ≡ offsets_of self.now }
         ensures sound { AreOffsets O.limit (map O.number (offsets_of self.now)) }
-        ensures within { end_of (map O.number (offsets_of self.now)) ≤ length (bytes_of self.now) };
+        ensures within { EndsWithin O.number (offsets_of self.now) (bytes_of self.now) };
 }
 
-impl<O: Offset> GenericBinaryArray<O> for BinaryArray<O> {
+impl<K: ViewType, O: Offset> GenericBinaryArray<O> for OffsetArray<K, O> {
     ghost bytes_of = { λ a. a.values };
 
     ghost offsets_of = { λ a. a.offsets };
 
     fn values(&self) -> &[u8] {
-        BinaryArray::values(self).as_slice()
+        OffsetArray::values(self).as_slice()
     }
 
     fn offsets(&self) -> &[O] {
-        let _ = self.dtype();
-        BinaryArray::offsets(self).as_slice()
-    }
-}
-
-impl<O: Offset> GenericBinaryArray<O> for Utf8Array<O> {
-    ghost bytes_of = { λ a. a.values };
-
-    ghost offsets_of = { λ a. a.offsets };
-
-    fn values(&self) -> &[u8] {
-        Utf8Array::values(self).as_slice()
-    }
-
-    fn offsets(&self) -> &[O] {
-        let _ = self.dtype();
-        Utf8Array::offsets(self).as_slice()
+        self.invariant();
+        OffsetArray::offsets(self).as_slice()
     }
 }

@@ -1,15 +1,14 @@
-//! Flat arrays of byte strings and texts.
+//! Flat arrays of binary values and of strings.
 #![tactic(auto)]
 
 mod binary;
 mod fixed_size_binary;
 mod generic;
+mod offset_array;
 mod piece;
 mod stored;
 mod utf8;
 
-pub use binary::BinaryArray;
 pub use fixed_size_binary::FixedSizeBinaryArray;
 pub use generic::GenericBinaryArray;
-pub use stored::size_of_values;
-pub use utf8::Utf8Array;
+pub use offset_array::{BinaryArray, OffsetArray, Utf8Array};

@@ -1,9 +1,10 @@
 //! What no clause says: that calls succeed with ample memory, which test of a constructor comes first, and the generic calls through
 //! their bounds.
 
-use crate::halves::{Counted, Counts, has_halves};
+use crate::halves::{Counted, Counts, counts_of, has_halves};
 use arrow_buffers::{Bitmap, Buffer, Offset, OffsetError, Offsets, OffsetsBuffer};
-use arrow_bytes::{BinaryArray, FixedSizeBinaryArray, GenericBinaryArray, Utf8Array};
+use arrow_bytes::{BinaryArray, FixedSizeBinaryArray, GenericBinaryArray, OffsetArray, Utf8Array};
+use arrow_flat::{ViewBytes, ViewStr, ViewType};
 use arrow_types::{ArrowDataType, Mem, PolarsResult, Reason};
 use flat_fixtures::{ends_as, gives, parts_of};
 use std::alloc::Global;
@@ -47,45 +48,42 @@ fn slots_of<O: Offset>(
     Ok((offsets, values, mask))
 }
 
-/// Binary values of a type that fits or not.
-fn binaries<O: Offset>(
-    alloc: Global,
-    is_fitting: bool,
-    bytes: &[u8],
-    length: Option<usize>,
-) -> Result<PolarsResult<BinaryArray<O>>, OffsetError> {
-    let (offsets, values, mask) = slots_of(alloc, bytes, length)?;
-    let dtype = if is_fitting == O::IS_LARGE {
-        ArrowDataType::LargeBinary
-    } else {
-        ArrowDataType::Binary
-    };
-    Ok(BinaryArray::try_new(dtype, offsets, values, mask))
-}
-
-/// The type of strings that fits, or another.
-fn string_type(is_large: bool, is_fitting: bool) -> ArrowDataType {
-    if is_large == is_fitting {
+/// The type of strings or of binary values, with large offsets or with others.
+fn type_of(is_text: bool, is_large: bool) -> ArrowDataType {
+    if is_text {
         if is_large {
             ArrowDataType::LargeUtf8
         } else {
-            ArrowDataType::Binary
+            ArrowDataType::Utf8
         }
     } else {
-        ArrowDataType::Utf8
+        if is_large {
+            ArrowDataType::LargeBinary
+        } else {
+            ArrowDataType::Binary
+        }
     }
 }
 
-/// Strings of a type that fits or not.
-fn strings<O: Offset>(
+/// The type of an array that fits; or one that doesn't, of small offsets or of the other kind.
+fn type_for(is_text: bool, is_large: bool, is_fitting: bool) -> ArrowDataType {
+    if is_fitting {
+        type_of(is_text, is_large)
+    } else {
+        type_of(is_text == is_large, false)
+    }
+}
+
+/// Strings or binary values of a type that fits or not.
+fn array_of<K: ViewType, O: Offset>(
     alloc: Global,
     is_fitting: bool,
     bytes: &[u8],
     length: Option<usize>,
-) -> Result<PolarsResult<Utf8Array<O>>, OffsetError> {
+) -> Result<PolarsResult<OffsetArray<K, O>>, OffsetError> {
     let (offsets, values, mask) = slots_of(alloc, bytes, length)?;
-    let dtype = string_type(O::IS_LARGE, is_fitting);
-    Ok(Utf8Array::try_new(dtype, offsets, values, mask))
+    let dtype = type_for(K::IS_TEXT, O::IS_LARGE, is_fitting);
+    Ok(OffsetArray::try_new(dtype, offsets, values, mask))
 }
 
 /// Whether there are parts, of which the outcome is this refusal, or an array where no refusal is wanted.
@@ -123,8 +121,18 @@ const REFUSALS: [Case; 7] = [
 fn offsets_are_tested_first_and_strings_last(rt: HostRuntime) {
     let alloc = rt.alloc();
     for (bytes, length, is_fitting, wanted) in REFUSALS {
-        assert!(rt; parts_end_as(binaries::<i32>(alloc, is_fitting, bytes, length), wanted));
-        assert!(rt; parts_end_as(strings::<i64>(alloc, is_fitting, bytes, length), wanted));
+        assert!(rt;
+            parts_end_as(
+                array_of::<ViewBytes, i32>(alloc, is_fitting, bytes, length),
+                wanted
+            )
+        );
+        assert!(rt;
+            parts_end_as(
+                array_of::<ViewStr, i64>(alloc, is_fitting, bytes, length),
+                wanted
+            )
+        );
     }
 }
 
@@ -147,7 +155,12 @@ const STRINGS: [Case; 6] = [
 fn each_slot_is_a_string(rt: HostRuntime) {
     let alloc = rt.alloc();
     for (bytes, length, is_fitting, wanted) in STRINGS {
-        assert!(rt; parts_end_as(strings::<i32>(alloc, is_fitting, bytes, length), wanted));
+        assert!(rt;
+            parts_end_as(
+                array_of::<ViewStr, i32>(alloc, is_fitting, bytes, length),
+                wanted
+            )
+        );
     }
 }
 
@@ -196,7 +209,7 @@ fn has_bytes(array: &BinaryArray<i64>) -> bool {
 
 #[test]
 fn binary_values_come_from_both_ends(rt: HostRuntime) -> Result<(), Fail> {
-    let array = binaries::<i64>(rt.alloc(), true, LETTERS, Some(3))??;
+    let array = array_of::<ViewBytes, i64>(rt.alloc(), true, LETTERS, Some(3))??;
     let has_bytes = has_bytes(&array);
     drop(array);
     assert!(rt; has_bytes);
@@ -211,7 +224,7 @@ fn has_strings(array: &Utf8Array<i32>) -> bool {
 
 #[test]
 fn strings_come_from_both_ends(rt: HostRuntime) -> Result<(), Fail> {
-    let array = strings::<i32>(rt.alloc(), true, LETTERS, Some(3))??;
+    let array = array_of::<ViewStr, i32>(rt.alloc(), true, LETTERS, Some(3))??;
     let has_strings = has_strings(&array);
     drop(array);
     assert!(rt; has_strings);
@@ -223,48 +236,21 @@ fn has_letters<O: Offset, A: GenericBinaryArray<O>>(array: &A) -> bool {
     array.offsets().len() == 4 && array.values().len() == 7
 }
 
-impl<O: Offset> Counted for BinaryArray<O> {
+impl<K: ViewType, O: Offset> Counted for OffsetArray<K, O> {
     fn counts(&self) -> Counts {
-        (
-            self.len(),
-            if self.validity().is_some() {
-                Some(self.null_count())
-            } else {
-                None
-            },
-        )
-    }
-}
-
-impl<O: Offset> Counted for Utf8Array<O> {
-    fn counts(&self) -> Counts {
-        (
-            self.len(),
-            if self.validity().is_some() {
-                Some(self.null_count())
-            } else {
-                None
-            },
-        )
+        counts_of(self.len(), self.null_count(), self.validity().is_some())
     }
 }
 
 impl Counted for FixedSizeBinaryArray {
     fn counts(&self) -> Counts {
-        (
-            self.len(),
-            if self.validity().is_some() {
-                Some(self.null_count())
-            } else {
-                None
-            },
-        )
+        counts_of(self.len(), self.null_count(), self.validity().is_some())
     }
 }
 
 #[test]
 fn binary_values_go_through_the_bounds(rt: HostRuntime) -> Result<(), Fail> {
-    let array = binaries::<i32>(rt.alloc(), true, LETTERS, Some(3))??;
+    let array = array_of::<ViewBytes, i32>(rt.alloc(), true, LETTERS, Some(3))??;
     let has_letters = has_letters::<i32, BinaryArray<i32>>(&array);
     let has_halves = has_halves(rt.alloc(), &array, 2, Some(((2, Some(1)), (1, None))));
     drop(array);
@@ -274,7 +260,7 @@ fn binary_values_go_through_the_bounds(rt: HostRuntime) -> Result<(), Fail> {
 
 #[test]
 fn strings_go_through_the_bounds(rt: HostRuntime) -> Result<(), Fail> {
-    let array = strings::<i64>(rt.alloc(), true, LETTERS, Some(3))??;
+    let array = array_of::<ViewStr, i64>(rt.alloc(), true, LETTERS, Some(3))??;
     let has_letters = has_letters::<i64, Utf8Array<i64>>(&array);
     let has_halves = has_halves(rt.alloc(), &array, 1, Some(((1, None), (2, Some(1)))));
     drop(array);

@@ -13,6 +13,11 @@ pub trait Counted {
     fn counts(&self) -> Counts;
 }
 
+/// The counts of an array of this length, with n nulls under its mask, if it has one.
+pub fn counts_of(length: usize, nulls: usize, has_mask: bool) -> Counts {
+    (length, if has_mask { Some(nulls) } else { None })
+}
+
 /// Whether a copy has halves of these counts, through the bounds, or none where none are wanted.
 pub fn has_halves<A: Counted + Splitable + TryClone + Drop>(
     alloc: Global,

@@ -1,12 +1,12 @@
 //! What no clause says: that calls succeed with ample memory, and that the clauses mean what columns by views do.
 
-use crate::halves::{Counted, Counts, has_halves};
+use crate::halves::{Counted, Counts, counts_of, has_halves};
 use arrow_buffers::{Bitmap, Buffer};
 use arrow_types::{ArrowDataType, Mem, PolarsResult, Reason};
 use arrow_views::{
     BinaryViewArray, BinaryViewArrayGeneric, Utf8ViewArray, View, ViewBytes, ViewStr, ViewType,
 };
-use flat_fixtures::{buffer_of, ends_as, gives, parts_of};
+use flat_fixtures::{buffer_of, ends_as, gives, parts_of, twice};
 use std::alloc::Global;
 use std::test::Fail;
 
@@ -15,6 +15,12 @@ const TEXT: &[u8] = b"thirteen bytes";
 const NO_TEXT: &[u8] = b"thirteen byte\xff";
 
 const ACCENT: &[u8] = b"\xc3\xa9thirteen bytes";
+
+/// A string of fourteen bytes, and a byte that no character begins with.
+const TORN: &[u8] = b"thirteen bytes\x80";
+
+/// The byte before the string.
+const TORN_FIRST: &[u8] = b"\x80thirteen bytes";
 
 /// One buffer, of these bytes.
 fn one_buffer(alloc: Global, bytes: &[u8]) -> Mem<Vec<Buffer<u8>>> {
@@ -51,6 +57,19 @@ fn array_of<T: ViewType>(
     BinaryViewArrayGeneric::try_new(dtype, views, buffers, Some(mask))
 }
 
+/// The same with memory for the test of strings.
+fn array_in<T: ViewType>(
+    alloc: Global,
+    by_offsets: bool,
+    views: &[View],
+    bytes: &[u8],
+    bits: &[bool],
+) -> PolarsResult<BinaryViewArrayGeneric<T>> {
+    let (views, buffers, mask) = parts(alloc, views, bytes, bits)?;
+    let dtype = type_of(T::IS_TEXT, by_offsets);
+    BinaryViewArrayGeneric::try_new_in(alloc, dtype, views, buffers, Some(mask))
+}
+
 fn type_of(is_text: bool, by_offsets: bool) -> ArrowDataType {
     if is_text {
         if by_offsets {
@@ -80,6 +99,10 @@ const PAST: Long = (14, *b"hirt", 0, 1);
 const GOOD: Long = (14, *b"thir", 0, 0);
 
 const INSIDE: Long = (14, *b"\xa9thi", 0, 1);
+
+const SECOND: Long = (14, *b"thir", 0, 1);
+
+const FIRST: Long = (14, *b"\x80thi", 0, 0);
 
 const SHORT: Long = (13, *b"thir", 0, 0);
 
@@ -115,6 +138,9 @@ const LONG: &[Case<Long>] = &[
     (GOOD, NO_TEXT, &[true], false, None, UTF8),
     (INSIDE, ACCENT, &[true], false, None, UTF8),
     (SHORT, NO_TEXT, &[true], false, None, None),
+    (GOOD, TORN, &[true], false, None, None),
+    (SECOND, TORN_FIRST, &[true], false, None, None),
+    (FIRST, TORN_FIRST, &[false], false, None, UTF8),
     (GOOD, TEXT, &[true], false, None, None),
 ];
 
@@ -133,6 +159,19 @@ fn end_as<V: Copy>(alloc: Global, view: View, case: &Case<V>) -> bool {
         as_bytes,
     ) && ends_as(
         array_of::<ViewStr>(alloc, by_offsets, &views, bytes, bits),
+        as_text,
+    ) && end_in_as(alloc, view, case)
+}
+
+/// The same with memory for the test of strings.
+fn end_in_as<V: Copy>(alloc: Global, view: View, case: &Case<V>) -> bool {
+    let (_, bytes, bits, by_offsets, as_bytes, as_text) = *case;
+    let views = [view];
+    ends_as(
+        array_in::<ViewBytes>(alloc, by_offsets, &views, bytes, bits),
+        as_bytes,
+    ) && ends_as(
+        array_in::<ViewStr>(alloc, by_offsets, &views, bytes, bits),
         as_text,
     )
 }
@@ -252,14 +291,7 @@ fn binary_values_are_read(rt: HostRuntime) -> Result<(), Fail> {
 
 impl<T: ViewType> Counted for BinaryViewArrayGeneric<T> {
     fn counts(&self) -> Counts {
-        (
-            self.len(),
-            if self.validity().is_some() {
-                Some(self.null_count())
-            } else {
-                None
-            },
-        )
+        counts_of(self.len(), self.null_count(), self.validity().is_some())
     }
 }
 
@@ -272,4 +304,40 @@ fn views_go_through_the_bounds(rt: HostRuntime) -> Result<(), Fail> {
     drop(array);
     assert!(rt; halves? && past?);
     Ok(())
+}
+
+#[test]
+fn views_are_copied(rt: HostRuntime) -> Mem<()> {
+    let view = View::new_inline(b"abc");
+    let (first, second) = twice(rt.alloc(), &view)?;
+    assert!(rt; first == view && second == view);
+    Ok(())
+}
+
+/// A view, `count` times.
+fn copies_of(alloc: Global, view: View, count: usize) -> Mem<Buffer<View>> {
+    let mut views = Vec::new(alloc);
+    views.resize(count, view)?;
+    Buffer::from_vec(alloc, views)
+}
+
+/// A buffer of `count` letters, and a byte that is no UTF-8.
+fn letters(alloc: Global, count: usize) -> Mem<Vec<Buffer<u8>>> {
+    let mut bytes = Vec::new(alloc);
+    bytes.resize(count, b'a')?;
+    bytes.push(0xff)?;
+    let buffer = Buffer::from_vec(alloc, bytes)?;
+    Ok(vec![in alloc; buffer]?)
+}
+
+/// Strings of all the letters of one buffer, again and again.
+fn overlapping(alloc: Global) -> PolarsResult<Utf8ViewArray> {
+    let views = copies_of(alloc, View::new_long(10_000, *b"aaaa", 0, 0), 1_000)?;
+    let buffers = letters(alloc, 10_000)?;
+    Utf8ViewArray::try_new_in(alloc, ArrowDataType::Utf8View, views, buffers, None)
+}
+
+#[test]
+fn strings_of_the_same_bytes_are_taken_beside_a_bad_byte(rt: HostRuntime) {
+    assert!(rt; ends_as(overlapping(rt.alloc()), None));
 }

@@ -1,23 +1,34 @@
 -- Slots of values under a mask.
-use Rattle.std.proofs.Common.{◌≡◌, ℕ, ◌+◌, ◌-◌, ◌<◌, ◌≤◌, zero, suc, Bool, false, cond, List, [], ◌∷◌, ◌++◌, map, length, take, drop, get_or, slice_get, refl, ap, sym, ◌∙◌, arith, add-one, lit<, Option, Some, None}
+use Rattle.std.proofs.Common.{◌≡◌, ℕ, ◌+◌, ◌-◌, ◌<◌, ◌≤◌, zero, suc, Bool, true, false, cond, List, [], ◌∷◌, ◌++◌, map, length, take, drop, get_or, slice_get, refl, ap, sym, ◌∙◌, arith, add-one, lit<, Option, Some, None}
+use Rattle.std.specs.Prelude.{if◌then◌else◌}
+use Rattle.std.specs.List.{list_all}
 use Rattle.std.specs.Simd.Lanes.{zip2}
 use Rattle.std.proofs.lemmas.Nat.{mod_below}
-use Rattle.arrow_buffers.specs.Bits.{Bits, lead_of}
+use Rattle.arrow_buffers.specs.Bits.{Bits, same, cut_bits, lead_of, needed_mask}
 use Rattle.arrow_buffers.proofs.Windows.{window_length}
-use Rattle.arrow_flat.specs.Primitives.{MaskHasLength, IsLed, window_mask, masked_values, valid_at}
+use Rattle.arrow_flat.specs.Primitives.{MaskHasLength, IsLed, cut_mask, masked_values, valid_at}
 
 -- ---- a mask that fits
-pub cut_fits : (m : Option Bits) (n o k : ℕ) → MaskHasLength m n → o + k ≤ n → MaskHasLength (window_mask m o k) k
+-- what no mask and the mask of these bits keep, the needed one keeps
+needed_keeps : (P : Option Bits → Type 0) → P None → (b : Bits) → P (Some b) → P (needed_mask b)
+needed_keeps P n b h = by (list_all same b.bits)
+  where
+    by : (all : Bool) → P (if all then None else Some b)
+    by true = n
+    by false = h
+
+pub cut_fits : (m : Option Bits) (n o k : ℕ) → MaskHasLength m n → o + k ≤ n → MaskHasLength (cut_mask o k m) k
 cut_fits None n o k h l = tt
-cut_fits (Some b) n o k h l = sym (window_length b.bits o k (omega arith))
+cut_fits (Some b) n o k h l =
+    needed_keeps (λ m. MaskHasLength m k) tt (cut_bits b o k) (sym (window_length b.bits o k (omega arith)))
 
 led_below : (start n : ℕ) → lead_of start n < 8
 led_below start zero = lit< tt
 led_below start (suc n) = mod_below start 8 (lit< tt)
 
-pub cut_led : (m : Option Bits) (o k : ℕ) → IsLed (window_mask m o k)
+pub cut_led : (m : Option Bits) (o k : ℕ) → IsLed (cut_mask o k m)
 cut_led None o k = tt
-cut_led (Some b) o k = led_below (b.lead + o) k
+cut_led (Some b) o k = needed_keeps IsLed tt (cut_bits b o k) (led_below (b.lead + o) k)
 
 -- ---- slots
 

@@ -1,7 +1,7 @@
 -- What a contract sees of an array of fixed-width values.
-use Rattle.std.specs.Prelude.{◌≡◌, ◌+◌, ◌-◌, ◌<◌, ◌≤◌, ℕ, nat_eq, Bool, true, false, cond, List, length, take, drop, map, get_or, Option, Some, None}
+use Rattle.std.specs.Prelude.{◌≡◌, ◌+◌, ◌<◌, ◌≤◌, ℕ, Bool, true, false, cond, List, length, take, drop, map, get_or, Option, Some, None}
 use Rattle.std.specs.Simd.Lanes.{zip2}
-use Rattle.arrow_buffers.specs.Bits.{Bits, cut_bits, count_unset}
+use Rattle.arrow_buffers.specs.Bits.{Bits, cut_bits, needed_mask, count_unset}
 use Rattle.arrow_types.specs.Carried.{IsCarried}
 use Rattle.arrow_types.specs.Seen.{seen}
 use Rattle.arrow_types.specs.Types.{physical_of}
@@ -16,7 +16,7 @@ pub record Primitives (T : Type 0) : Type 0 where
   pub values : List T
   pub mask : Option Bits
 
--- A mask has so many bits, if there is one.
+-- A mask has n bits, if there is one.
 abbrev pub MaskHasLength : Option Bits → ℕ → Type 0
 MaskHasLength None n = Unit {0}
 MaskHasLength (Some b) n = length b.bits ≡ n
@@ -35,12 +35,12 @@ abbrev pub HasRange : Option Bits → ℕ → ℕ → Type 0
 HasRange None offset n = Unit {0}
 HasRange (Some b) offset n = offset + n ≤ length b.bits
 
--- The mask of n slots from `offset` on.
-abbrev pub window_mask : Option Bits → ℕ → ℕ → Option Bits
-window_mask None offset n = None
-window_mask (Some b) offset n = Some (cut_bits b offset n)
+-- The mask of n slots from `offset` on; none where none of them is null.
+abbrev pub cut_mask : ℕ → ℕ → Option Bits → Option Bits
+cut_mask offset n None = None
+cut_mask offset n (Some b) = needed_mask (cut_bits b offset n)
 
--- Whether a mask has so many bits, if there is one.
+-- A mask has at least n bits, if there is one.
 abbrev pub HasBound : Option Bits → ℕ → Type 0
 HasBound None n = Unit {0}
 HasBound (Some b) n = n ≤ length b.bits
@@ -55,23 +55,16 @@ abbrev pub unset_in : Option Bits → ℕ
 unset_in None = 0
 unset_in (Some b) = count_unset b.bits
 
--- A mask that has an unset bit, and none in place of another.
-abbrev pub needed : Option Bits → Option Bits
-needed m = cond (nat_eq (unset_in m) 0) None m
+-- What every array keeps: a mask for its slots, and a type that is stored in this layout.
+pub record IsLaidOut
+    (layout : PhysicalType) (t : ArrowDataType) (m : Option Bits) (n : ℕ) : Type 0 where
+  pub fits : MaskHasLength m n
+  pub stored : physical_of (seen t) ≡ Some layout
 
--- The mask of the half of a column that has n slots from `offset` on.
-abbrev pub half_mask : Option Bits → ℕ → ℕ → Option Bits
-half_mask m offset n = needed (window_mask m offset n)
-
--- The two halves of a mask alone.
-abbrev pub front_mask : Option Bits → ℕ → Option Bits
-front_mask m n = half_mask m 0 n
-
-abbrev pub rest_mask : Option Bits → ℕ → Option Bits
-rest_mask m n = half_mask m n (mask_count m - n)
-
--- What every array keeps: a mask for its slots, and a type that columns have and that is stored in this layout.
-pub record IsArray (layout : PhysicalType) (t : ArrowDataType) (m : Option Bits) (n : ℕ) : Type 0 where
+-- The same with what the parts keep: fewer bits before a mask's own than a byte has, and a type
+-- that columns have.
+pub record IsArray
+    (layout : PhysicalType) (t : ArrowDataType) (m : Option Bits) (n : ℕ) : Type 0 where
   pub fits : MaskHasLength m n
   pub led : IsLed m
   pub stored : physical_of (seen t) ≡ Some layout
@@ -96,14 +89,12 @@ module _ {T : Type 0} where
 
   -- The array of n slots from `offset` on.
   abbrev pub cut : Primitives T → ℕ → ℕ → Primitives T
-  cut a offset n = record { dtype = a.dtype; values = take n (drop offset a.values); mask = window_mask a.mask offset n }
+  cut a offset n = record {
+    dtype = a.dtype;
+    values = take n (drop offset a.values);
+    mask = cut_mask offset n a.mask;
+  }
 
-  -- The same, of which a mask without an unset bit goes.
-  abbrev pub half : Primitives T → ℕ → ℕ → Primitives T
-  half a offset n = record { dtype = a.dtype; values = take n (drop offset a.values); mask = half_mask a.mask offset n }
-
-  abbrev pub front : Primitives T → ℕ → Primitives T
-  front a n = half a 0 n
-
-  abbrev pub rest : Primitives T → ℕ → Primitives T
-  rest a n = half a n (length a.values - n)
+  -- The array with another mask, or none.
+  abbrev pub with_mask : Option Bits → Primitives T → Primitives T
+  with_mask m a = record { dtype = a.dtype; values = a.values; mask = m }

@@ -1,20 +1,18 @@
 //! Arrays of single bits under a mask.
-ghost use Rattle.std.specs.Prelude.{◌≡◌, ◌+◌, ◌<◌, ◌≤◌, length as count, slice_get, not, Some, MatchResult, IfOk};
+ghost use Rattle.std.specs.Prelude.{◌≡◌, ◌+◌, ◌<◌, ◌≤◌, length as count, slice_get, not, Some, MatchResult, IfOk, refl};
 ghost use Rattle.arrow_types.specs.Seen.{seen};
 ghost use Rattle.arrow_types.specs.Types.{physical_of};
 ghost use Rattle.arrow_types.specs.declared.datatype.PhysicalType.TheVariants as physical;
 ghost use Rattle.std.specs.Option.{option_copied};
-ghost use Rattle.arrow_flat.specs.Primitives.{MaskHasLength, valid_at, unset_in};
-ghost use Rattle.arrow_flat.specs.Booleans.{Booleans, IsSound, slots, cut, half};
+ghost use Rattle.arrow_flat.specs.Primitives.{MaskHasLength, IsLaidOut, valid_at, unset_in};
+ghost use Rattle.arrow_flat.specs.Booleans.{IsSound, slots, cut, with_mask};
 ghost use Rattle.arrow_flat.specs.Refusals.{Refused};
 
-use crate::stored::is_stored_as_bits;
-use crate::validity::{
-    clone_mask, drop_unneeded, is_valid, know_led, mask_fits, null_count, slice_mask,
-};
-use crate::{BooleanIter, Splitable, TryClone};
+use crate::stored::is_stored_in;
+use crate::validity::{clone_mask, is_valid, mask_fits, null_count, slice_mask};
+use crate::{ArrayAccessor, ArrayIter, Splitable, TryClone, stored, validity};
 use arrow_buffers::{Bitmap, BitmapIter};
-use arrow_types::{ArrowDataType, Mem, PolarsError, PolarsResult, Reason};
+use arrow_types::{ArrowDataType, Mem, PhysicalType, PolarsError, PolarsResult, Reason};
 use std::alloc::Global;
 use std::marker::Model;
 
@@ -27,7 +25,7 @@ pub struct BooleanArray {
     validity: Option<Bitmap>,
 }
 
-/// By hand, so that each place where a value may end has one call to prove, and not the drop of every field.
+/// By hand: where a value may end there is one call to prove then, not the drop of each field.
 impl Drop for BooleanArray {
     fn drop(self) {
         let BooleanArray {
@@ -42,7 +40,10 @@ impl Model for BooleanArray {
     ghost use Rattle.std.specs.Coded.{codes};
     ghost use Rattle.arrow_types.specs.contracts.datatype.ArrowDataType as data_type;
     ghost use Rattle.arrow_buffers.specs.Bits.{bits_code};
-    ghost use Rattle.arrow_flat.specs.Booleans.{Booleans, IsSound};
+    ghost use Rattle.std.specs.Prelude.{length};
+    ghost use Rattle.arrow_flat.specs.Booleans.{Booleans};
+    ghost use Rattle.arrow_types.specs.declared.datatype.PhysicalType.TheVariants as physical;
+    ghost use Rattle.arrow_flat.specs.Primitives.{IsLaidOut};
 
     ghost Value = { Booleans };
 
@@ -50,27 +51,28 @@ impl Model for BooleanArray {
 
     ghost view = { λ a. record { dtype = a.dtype; values = a.values; mask = a.validity } };
 
-    ghost invariant = { λ a. IsSound a.dtype a.validity a.values };
+    ghost invariant = { λ a. IsLaidOut physical.Boolean a.dtype a.validity (length a.values.bits) };
 }
 
 impl BooleanArray {
-    /// The array of these parts. Refused as ComputeError(MaskLength) where a mask is there and hasn't one bit a value, then as
-    /// ComputeError(WrongLogicalType) where the type isn't stored as bits.
+    /// The array of these parts. Takes no memory.
     ///
-    /// Takes no memory.
+    /// Refused as ComputeError(MaskLength) where a mask is there and hasn't one bit a value, then
+    /// as ComputeError(WrongLogicalType) where the type isn't stored as bits.
     pub fn try_new(
         dtype: ArrowDataType,
         values: Bitmap,
         validity: Option<Bitmap>,
     ) -> PolarsResult<BooleanArray>
         ensures { MatchResult result
-            (λ a. (a ≡ record { dtype = dtype; values = values; mask = validity }) × IsSound dtype validity values)
+            (λ a. (a ≡ record { dtype = dtype; values = values; mask = validity })
+            × IsLaidOut physical.Boolean dtype validity (count values.bits))
             (λ e. Refused e physical.Boolean dtype validity (count values.bits)) }
     {
         if !mask_fits(&validity, values.len()) {
             return Err(PolarsError::ComputeError(Reason::MaskLength));
         }
-        if !is_stored_as_bits(&dtype) {
+        if !is_stored_in(&dtype, PhysicalType::Boolean) {
             return Err(PolarsError::ComputeError(Reason::WrongLogicalType));
         }
         Ok(BooleanArray {
@@ -80,24 +82,32 @@ impl BooleanArray {
         })
     }
 
-    /// The array of parts that fit together: a mask has one bit a value, and the type is stored as bits.
-    ///
-    /// Takes no memory.
+    /// The array of parts that fit together: a mask has one bit a value, and the type is stored as
+    /// bits. Takes no memory.
     pub fn new(dtype: ArrowDataType, values: Bitmap, validity: Option<Bitmap>) -> BooleanArray
         requires fits { MaskHasLength validity (count values.bits) }
         requires stored { physical_of (seen dtype) ≡ Some physical.Boolean }
         ensures { result ≡ record { dtype = dtype; values = values; mask = validity } }
     {
-        match BooleanArray::try_new(dtype, values, validity) {
-            Ok(array) => array,
-            Err(_) => unreachable!(),
+        BooleanArray {
+            dtype,
+            values,
+            validity,
         }
+    }
+
+    /// For proofs alone: what the array keeps.
+    pub fn invariant(&self)
+        ensures { IsSound self.now.dtype self.now.mask self.now.values }
+    {
+        validity::invariant(&self.validity);
+        stored::invariant(&self.dtype);
+        self.values.len();
     }
 
     /// The whole type, extensions included.
     pub fn dtype(&self) -> &ArrowDataType
-        ensures value { result.now ≡ self.now.dtype }
-        ensures sound { IsSound self.now.dtype self.now.mask self.now.values }
+        ensures { result.now ≡ self.now.dtype }
     {
         &self.dtype
     }
@@ -154,29 +164,19 @@ impl BooleanArray {
         null_count(&self.validity)
     }
 
-    /// The value at a slot, None where it is null.
+    /// The value at a slot, `None` where it is null.
     pub fn get(&self, i: usize) -> Option<bool>
         requires { i < count self.now.values.bits }
         ensures { slice_get (slots self.now) i ≡ Some result }
     {
-        let _ = &self.validity;
-        if self.is_valid(i) {
-            Some(self.value(i))
-        } else {
-            None
-        }
+        ArrayAccessor::get(self, i)
     }
 
-    /// Each slot in order, None for a null, from both ends.
+    /// Each slot in order, `None` for a null, from both ends.
     pub fn iter(&self) -> BooleanIter<'_>
         ensures { result ≡ slots self.now }
     {
-        let _ = &self.validity;
-        BooleanIter {
-            array: self,
-            front: 0,
-            back: self.len(),
-        }
+        BooleanIter::new(self)
     }
 
     /// Each value in order, those under nulls too, from both ends.
@@ -186,37 +186,36 @@ impl BooleanArray {
         self.values.iter()
     }
 
-    /// Keeps the `length` slots from `offset` on.
+    /// Keeps the `length` slots from `offset` on; a mask without nulls is dropped.
+    ///
+    /// Takes no memory; counts the mask's bits.
     pub fn slice(&mut self, offset: usize, length: usize)
         requires { offset + length ≤ count self.old.values.bits }
         ensures { self.new ≡ cut self.old offset length }
     {
         slice_mask(&mut self.validity, offset, length);
         self.values.slice(offset, length);
-        let _count = self.values.len();
     }
 
-    /// A copy of the `length` slots from `offset` on, whose mask goes where none of them is null.
-    fn half(&self, alloc: Global, offset: usize, length: usize) -> Mem<BooleanArray>
+    /// A shared copy of the `length` slots from `offset` on.
+    fn part(&self, alloc: Global, offset: usize, length: usize) -> Mem<BooleanArray>
         requires { offset + length ≤ count self.now.values.bits }
-        ensures { IfOk result (λ a. a ≡ half self.now offset length) }
+        ensures { IfOk result (λ a. a ≡ cut self.now offset length) }
     {
-        let mut half = BooleanArray::try_clone(self, alloc)?;
-        half.slice(offset, length);
-        drop_unneeded(&mut half.validity);
-        Ok(half)
+        let mut part = BooleanArray::try_clone(self, alloc)?;
+        part.slice(offset, length);
+        Ok(part)
     }
 
     /// Puts another mask, or none, in the mask's place.
     pub fn set_validity(&mut self, validity: Option<Bitmap>)
         requires { MaskHasLength validity (count self.old.values.bits) }
-        ensures { self.new ≡ record { dtype = self.old.dtype; values = self.old.values; mask = validity } }
+        ensures { self.new ≡ with_mask validity self.old }
     {
-        know_led(&validity);
         self.validity = validity;
     }
 
-    /// Another owner of the same values and mask.
+    /// A shared copy.
     pub fn try_clone(&self, alloc: Global) -> Mem<BooleanArray>
         ensures { IfOk result (λ a. a ≡ self.now) }
     {
@@ -228,6 +227,32 @@ impl BooleanArray {
     }
 }
 
+impl<'a> ArrayAccessor<bool, bool> for &'a BooleanArray {
+    ghost seen = { λ x. x };
+
+    ghost seen_slot = { λ o. o };
+
+    ghost values = { λ a. a.now.values.bits };
+
+    ghost mask = { λ a. a.now.mask };
+
+    fn len(self) -> usize {
+        self.values.len()
+    }
+
+    fn is_valid(self, i: usize) -> bool {
+        is_valid(&self.validity, i)
+    }
+
+    fn value(self, i: usize) -> bool {
+        BooleanArray::value(self, i)
+    }
+
+    ghost of_value = { λ x. refl };
+
+    ghost of_null = { refl };
+}
+
 impl TryClone for BooleanArray {
     fn try_clone(&self, alloc: Global) -> Mem<BooleanArray> {
         BooleanArray::try_clone(self, alloc)
@@ -235,22 +260,25 @@ impl TryClone for BooleanArray {
 }
 
 impl Splitable for BooleanArray {
-    ghost use Rattle.std.specs.Prelude.{◌≤◌, length};
-    ghost use Rattle.arrow_flat.specs.Booleans.{front, rest};
+    ghost use Rattle.std.specs.Prelude.{◌-◌, ◌≤◌, length};
+    ghost use Rattle.arrow_flat.specs.Booleans.{cut};
 
     ghost HasBound = { λ a n. n ≤ length a.values.bits };
 
-    ghost front = { front };
+    ghost front = { λ a n. cut a 0 n };
 
-    ghost rest = { rest };
+    ghost rest = { λ a n. cut a n (length a.values.bits - n) };
 
     fn check_bound(&self, offset: usize) -> bool {
         offset <= self.len()
     }
 
     fn split_at(&self, alloc: Global, offset: usize) -> Mem<(BooleanArray, BooleanArray)> {
-        let front = self.half(alloc, 0, offset)?;
-        let rest = self.half(alloc, offset, self.len() - offset)?;
+        let front = self.part(alloc, 0, offset)?;
+        let rest = self.part(alloc, offset, self.len() - offset)?;
         Ok((front, rest))
     }
 }
+
+/// The slots of an array, `None` for a null.
+pub type BooleanIter<'a> = ArrayIter<&'a BooleanArray, bool, bool>;

@@ -1,18 +1,16 @@
 //! Arrays of fixed-width values under a mask.
-ghost use Rattle.std.specs.Prelude.{◌≡◌, ◌+◌, ◌<◌, ◌≤◌, length as count, slice_get, not, Some, MatchResult, IfOk};
+ghost use Rattle.std.specs.Prelude.{◌≡◌, ◌+◌, ◌<◌, ◌≤◌, length as count, slice_get, not, Some, MatchResult, IfOk, refl};
 ghost use Rattle.arrow_types.specs.Seen.{seen};
 ghost use Rattle.arrow_types.specs.Types.{physical_of};
 ghost use Rattle.arrow_types.specs.declared.datatype.PhysicalType.TheVariants as physical;
-ghost use Rattle.arrow_flat.specs.Primitives.{MaskHasLength, IsSound};
+ghost use Rattle.arrow_flat.specs.Primitives.{MaskHasLength, IsLaidOut, IsSound};
 
 use crate::native::{DaysMs, MonthDayNano, NativeType};
-use crate::stored::is_stored_as;
-use crate::validity::{
-    clone_mask, drop_unneeded, is_valid, know_led, mask_fits, null_count, slice_mask,
-};
-use crate::{PrimitiveIter, PrimitiveValuesIter, Splitable, TryClone};
+use crate::stored::is_stored_in;
+use crate::validity::{clone_mask, is_valid, mask_fits, null_count, slice_mask};
+use crate::{ArrayAccessor, ArrayIter, ArrayValuesIter, Splitable, TryClone, stored, validity};
 use arrow_buffers::{Bitmap, Buffer};
-use arrow_types::{ArrowDataType, Mem, PolarsError, PolarsResult, Reason};
+use arrow_types::{ArrowDataType, Mem, PhysicalType, PolarsError, PolarsResult, Reason};
 use std::alloc::Global;
 use std::marker::Model;
 
@@ -25,7 +23,7 @@ pub struct PrimitiveArray<T: NativeType> {
     validity: Option<Bitmap>,
 }
 
-/// By hand, so that each place where a value may end has one call to prove, and not the drop of every field.
+/// By hand: where a value may end there is one call to prove then, not the drop of each field.
 impl<T: NativeType> Drop for PrimitiveArray<T> {
     fn drop(self) {
         let PrimitiveArray {
@@ -40,7 +38,8 @@ impl<T: NativeType> Model for PrimitiveArray<T> {
     ghost use Rattle.std.specs.Prelude.{length};
     ghost use Rattle.std.specs.Coded.{codes};
     ghost use Rattle.arrow_types.specs.contracts.datatype.ArrowDataType as data_type;
-    ghost use Rattle.arrow_flat.specs.Primitives.{Primitives, IsSound};
+    ghost use Rattle.arrow_types.specs.declared.datatype.PhysicalType.TheVariants as physical;
+    ghost use Rattle.arrow_flat.specs.Primitives.{Primitives, IsLaidOut};
 
     ghost Value = { Primitives T };
 
@@ -48,31 +47,32 @@ impl<T: NativeType> Model for PrimitiveArray<T> {
 
     ghost view = { λ a. record { dtype = a.dtype; values = a.values; mask = a.validity } };
 
-    ghost invariant = { λ a. IsSound T.PRIMITIVE a.dtype a.validity (length a.values) };
+    ghost invariant = { λ a. IsLaidOut (physical.Primitive T.PRIMITIVE) a.dtype a.validity (length a.values) };
 }
 
 impl<T: NativeType> PrimitiveArray<T> {
     ghost use Rattle.std.specs.Option.{option_copied};
-    ghost use Rattle.arrow_flat.specs.Primitives.{Primitives, slots, valid_at, unset_in, cut, half};
+    ghost use Rattle.arrow_flat.specs.Primitives.{Primitives, slots, valid_at, unset_in, cut, with_mask};
     ghost use Rattle.arrow_flat.specs.Refusals.{Refused};
 
-    /// The array of these parts. Refused as ComputeError(MaskLength) where a mask is there and hasn't one bit a value, then as
-    /// ComputeError(WrongLogicalType) where the type isn't stored as T.
+    /// The array of these parts. Takes no memory.
     ///
-    /// Takes no memory.
+    /// Refused as ComputeError(MaskLength) where a mask is there and hasn't one bit a value, then
+    /// as ComputeError(WrongLogicalType) where the type isn't stored as T.
     pub fn try_new(
         dtype: ArrowDataType,
         values: Buffer<T>,
         validity: Option<Bitmap>,
     ) -> PolarsResult<PrimitiveArray<T>>
         ensures { MatchResult result
-            (λ a. (a ≡ record { dtype = dtype; values = values; mask = validity }) × IsSound T.PRIMITIVE dtype validity (count values))
+            (λ a. (a ≡ record { dtype = dtype; values = values; mask = validity })
+            × IsLaidOut (physical.Primitive T.PRIMITIVE) dtype validity (count values))
             (λ e. Refused e (physical.Primitive T.PRIMITIVE) dtype validity (count values)) }
     {
         if !mask_fits(&validity, values.len()) {
             return Err(PolarsError::ComputeError(Reason::MaskLength));
         }
-        if !is_stored_as(&dtype, T::PRIMITIVE) {
+        if !is_stored_in(&dtype, PhysicalType::Primitive(T::PRIMITIVE)) {
             return Err(PolarsError::ComputeError(Reason::WrongLogicalType));
         }
         Ok(PrimitiveArray {
@@ -82,9 +82,8 @@ impl<T: NativeType> PrimitiveArray<T> {
         })
     }
 
-    /// The array of parts that fit together: a mask has one bit a value, and the type is stored as T.
-    ///
-    /// Takes no memory.
+    /// The array of parts that fit together: a mask has one bit a value, and the type is stored as
+    /// T. Takes no memory.
     pub fn new(
         dtype: ArrowDataType,
         values: Buffer<T>,
@@ -94,16 +93,24 @@ impl<T: NativeType> PrimitiveArray<T> {
         requires stored { physical_of (seen dtype) ≡ Some (physical.Primitive T.PRIMITIVE) }
         ensures { result ≡ record { dtype = dtype; values = values; mask = validity } }
     {
-        match PrimitiveArray::try_new(dtype, values, validity) {
-            Ok(array) => array,
-            Err(_) => unreachable!(),
+        PrimitiveArray {
+            dtype,
+            values,
+            validity,
         }
+    }
+
+    /// For proofs alone: what the array keeps.
+    pub fn invariant(&self)
+        ensures { IsSound T.PRIMITIVE self.now.dtype self.now.mask (count self.now.values) }
+    {
+        validity::invariant(&self.validity);
+        stored::invariant(&self.dtype);
     }
 
     /// The whole type, extensions included.
     pub fn dtype(&self) -> &ArrowDataType
-        ensures value { result.now ≡ self.now.dtype }
-        ensures sound { IsSound T.PRIMITIVE self.now.dtype self.now.mask (count self.now.values) }
+        ensures { result.now ≡ self.now.dtype }
     {
         &self.dtype
     }
@@ -160,43 +167,31 @@ impl<T: NativeType> PrimitiveArray<T> {
         null_count(&self.validity)
     }
 
-    /// The value at a slot, None where it is null.
+    /// The value at a slot, `None` where it is null.
     pub fn get(&self, i: usize) -> Option<T>
         requires { i < count self.now.values }
         ensures { slice_get (slots self.now) i ≡ Some result }
     {
-        let _ = &self.validity;
-        if self.is_valid(i) {
-            Some(self.value(i))
-        } else {
-            None
-        }
+        ArrayAccessor::get(self, i)
     }
 
-    /// Each slot in order, None for a null, from both ends.
+    /// Each slot in order, `None` for a null, from both ends.
     pub fn iter(&self) -> PrimitiveIter<'_, T>
         ensures { result ≡ slots self.now }
     {
-        let _ = &self.validity;
-        PrimitiveIter {
-            array: self,
-            front: 0,
-            back: self.len(),
-        }
+        PrimitiveIter::new(self)
     }
 
     /// Each value in order, those under nulls too, from both ends.
     pub fn values_iter(&self) -> PrimitiveValuesIter<'_, T>
         ensures { result ≡ self.now.values }
     {
-        PrimitiveValuesIter {
-            values: self.values.as_slice(),
-            front: 0,
-            back: self.len(),
-        }
+        PrimitiveValuesIter::new(self)
     }
 
-    /// Keeps the `length` slots from `offset` on.
+    /// Keeps the `length` slots from `offset` on; a mask without nulls is dropped.
+    ///
+    /// Takes no memory; counts the mask's bits.
     pub fn slice(&mut self, offset: usize, length: usize)
         requires { offset + length ≤ count self.old.values }
         ensures { self.new ≡ cut self.old offset length }
@@ -205,27 +200,25 @@ impl<T: NativeType> PrimitiveArray<T> {
         self.values.slice(offset, length);
     }
 
-    /// A copy of the `length` slots from `offset` on, whose mask goes where none of them is null.
-    fn half(&self, alloc: Global, offset: usize, length: usize) -> Mem<PrimitiveArray<T>>
+    /// A shared copy of the `length` slots from `offset` on.
+    fn part(&self, alloc: Global, offset: usize, length: usize) -> Mem<PrimitiveArray<T>>
         requires { offset + length ≤ count self.now.values }
-        ensures { IfOk result (λ a. a ≡ half self.now offset length) }
+        ensures { IfOk result (λ a. a ≡ cut self.now offset length) }
     {
-        let mut half = PrimitiveArray::try_clone(self, alloc)?;
-        half.slice(offset, length);
-        drop_unneeded(&mut half.validity);
-        Ok(half)
+        let mut part = PrimitiveArray::try_clone(self, alloc)?;
+        part.slice(offset, length);
+        Ok(part)
     }
 
     /// Puts another mask, or none, in the mask's place.
     pub fn set_validity(&mut self, validity: Option<Bitmap>)
         requires { MaskHasLength validity (count self.old.values) }
-        ensures { self.new ≡ record { dtype = self.old.dtype; values = self.old.values; mask = validity } }
+        ensures { self.new ≡ with_mask validity self.old }
     {
-        know_led(&validity);
         self.validity = validity;
     }
 
-    /// Another owner of the same values and mask.
+    /// A shared copy.
     pub fn try_clone(&self, alloc: Global) -> Mem<PrimitiveArray<T>>
         ensures { IfOk result (λ a. a ≡ self.now) }
     {
@@ -237,6 +230,32 @@ impl<T: NativeType> PrimitiveArray<T> {
     }
 }
 
+impl<'a, T: NativeType> ArrayAccessor<T, T> for &'a PrimitiveArray<T> {
+    ghost seen = { λ x. x };
+
+    ghost seen_slot = { λ o. o };
+
+    ghost values = { λ a. a.now.values };
+
+    ghost mask = { λ a. a.now.mask };
+
+    fn len(self) -> usize {
+        self.values.len()
+    }
+
+    fn is_valid(self, i: usize) -> bool {
+        is_valid(&self.validity, i)
+    }
+
+    fn value(self, i: usize) -> T {
+        PrimitiveArray::value(self, i)
+    }
+
+    ghost of_value = { λ x. refl };
+
+    ghost of_null = { refl };
+}
+
 impl<T: NativeType> TryClone for PrimitiveArray<T> {
     fn try_clone(&self, alloc: Global) -> Mem<PrimitiveArray<T>> {
         PrimitiveArray::try_clone(self, alloc)
@@ -244,14 +263,14 @@ impl<T: NativeType> TryClone for PrimitiveArray<T> {
 }
 
 impl<T: NativeType> Splitable for PrimitiveArray<T> {
-    ghost use Rattle.std.specs.Prelude.{◌≤◌, length};
-    ghost use Rattle.arrow_flat.specs.Primitives.{front, rest};
+    ghost use Rattle.std.specs.Prelude.{◌-◌, ◌≤◌, length};
+    ghost use Rattle.arrow_flat.specs.Primitives.{cut};
 
     ghost HasBound = { λ a n. n ≤ length a.values };
 
-    ghost front = { front };
+    ghost front = { λ a n. cut a 0 n };
 
-    ghost rest = { rest };
+    ghost rest = { λ a n. cut a n (length a.values - n) };
 
     fn check_bound(&self, offset: usize) -> bool {
         offset <= self.len()
@@ -262,11 +281,17 @@ impl<T: NativeType> Splitable for PrimitiveArray<T> {
         alloc: Global,
         offset: usize,
     ) -> Mem<(PrimitiveArray<T>, PrimitiveArray<T>)> {
-        let front = self.half(alloc, 0, offset)?;
-        let rest = self.half(alloc, offset, self.len() - offset)?;
+        let front = self.part(alloc, 0, offset)?;
+        let rest = self.part(alloc, offset, self.len() - offset)?;
         Ok((front, rest))
     }
 }
+
+/// The slots of an array, `None` for a null.
+pub type PrimitiveIter<'a, T> = ArrayIter<&'a PrimitiveArray<T>, T, T>;
+
+/// The values of an array, those under nulls too.
+pub type PrimitiveValuesIter<'a, T> = ArrayValuesIter<&'a PrimitiveArray<T>, T, T>;
 
 /// An array of `i8`.
 pub type Int8Array = PrimitiveArray<i8>;

@@ -1,8 +1,8 @@
 //! Cutting in two.
 ghost use Rattle.std.specs.Prelude.{◌≡◌, ◌↔◌, ℕ, IfOk, IsTrue};
-ghost use Rattle.arrow_flat.specs.Primitives.{HasBound, front_mask, rest_mask};
+ghost use Rattle.arrow_flat.specs.Primitives.{HasBound, mask_count, cut_mask};
 
-use crate::validity::half_mask;
+use crate::validity::{clone_mask, slice_mask};
 use arrow_buffers::Bitmap;
 use arrow_types::Mem;
 use std::alloc::Global;
@@ -19,7 +19,8 @@ pub trait Splitable: Sized {
     fn check_bound(&self, offset: usize) -> bool
         ensures { IsTrue result ↔ (HasBound self.now offset) };
 
-    /// The first `offset` slots or bits, and the rest. The halves share the buffers, and a half's mask without an unset bit goes.
+    /// The first `offset` slots or bits, and the rest. The halves share the buffers; a half's mask
+    /// without nulls is dropped.
     fn split_at(&self, alloc: Global, offset: usize) -> Mem<(Self, Self)>
         requires { HasBound self.now offset }
         ensures { IfOk result (λ p. (p.0 ≡ front self.now offset) × (p.1 ≡ rest self.now offset)) };
@@ -29,9 +30,11 @@ pub trait Splitable: Sized {
 impl Splitable for Option<Bitmap> {
     ghost HasBound = { HasBound };
 
-    ghost front = { front_mask };
+    ghost use Rattle.std.specs.Prelude.{◌-◌};
 
-    ghost rest = { rest_mask };
+    ghost front = { λ m n. cut_mask 0 n m };
+
+    ghost rest = { λ m n. cut_mask n (mask_count m - n) m };
 
     fn check_bound(&self, offset: usize) -> bool {
         match self {
@@ -45,9 +48,10 @@ impl Splitable for Option<Bitmap> {
             None => 0,
             Some(mask) => mask.len() - offset,
         };
-        Ok((
-            half_mask(alloc, self, 0, offset)?,
-            half_mask(alloc, self, offset, left)?,
-        ))
+        let mut front = clone_mask(alloc, self)?;
+        slice_mask(&mut front, 0, offset);
+        let mut rest = clone_mask(alloc, self)?;
+        slice_mask(&mut rest, offset, left);
+        Ok((front, rest))
     }
 }

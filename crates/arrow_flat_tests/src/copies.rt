@@ -1,4 +1,4 @@
-//! What no clause says: that each type that is copied is copied with ample memory, through the bound.
+//! Copies through the bound: each type that is copied is, with ample memory.
 
 use arrow_flat::{DaysMs, MonthDayNano, TryClone};
 use arrow_types::{
@@ -6,7 +6,6 @@ use arrow_types::{
     IntervalUnit, Mem, Metadata, PhysicalType, PlSmallStr, PolarsError, PrimitiveType, Reason,
     ReshapeDimension, SharedMetadata, TimeUnit, UnionMode, UnionType,
 };
-use arrow_views::View;
 use flat_fixtures::twice;
 use std::alloc::Global;
 use std::collections::BTreeMap;
@@ -49,7 +48,6 @@ fn values_are_copied(alloc: Global) -> bool {
         && is_copied(alloc, Ok(PolarsError::ComputeError(Reason::MaskLength)))
         && is_copied(alloc, Ok(DaysMs(-1, 2)))
         && is_copied(alloc, Ok(MonthDayNano(-1, 2, 3)))
-        && is_copied(alloc, Ok(View::new_inline(b"abc")))
 }
 
 fn string(alloc: Global) -> Mem<PlSmallStr> {

@@ -1,12 +1,15 @@
-//! What no clause says: that calls succeed with ample memory, which test comes first, and the generic calls through their bounds.
+//! What no clause says: calls succeed with ample memory, which test comes first, and the generic
+//! calls through their bounds.
 
-use arrow_buffers::{Bitmap, Buffer, Offsets, OffsetsBuffer};
+use arrow_buffers::{Bitmap, BitmapBuilder, Buffer, MutableBitmap, Offsets, OffsetsBuffer};
 use arrow_flat::{
     BooleanArray, DaysMs, Int32Array, MonthDayNano, NativeType, PrimitiveArray, TryClone,
 };
-use arrow_types::{ArrowDataType, Mem, PolarsError, PolarsResult, Reason};
+use arrow_types::{
+    ArrowDataType, Field, Fields, Ids, Mem, PlSmallStr, PolarsError, PolarsResult, Reason,
+};
 use flat_fixtures::{buffer_of, ends_as, gives, halves, mask_of, parts_of, twice};
-use std::alloc::Global;
+use std::alloc::{AllocError, Global};
 use std::test::Fail;
 
 /// Two set bits and an unset one, and a mask of this length.
@@ -86,15 +89,24 @@ fn are_bits(array: &BooleanArray) -> bool {
         && gives(array.iter().rev(), &[Some(false), None, Some(true)])
 }
 
-/// Whether three numbers are cut to the last two, and shown without their mask.
+/// Whether three numbers are cut to the last two, and then to the last, which needs no mask.
 fn is_cut(array: &mut Int32Array) -> bool {
     if array.len() != 3 {
         return false;
     }
     array.slice(1, 2);
-    let is_masked = has_slots(array, &[None, Some(5)]);
+    let is_masked = has_slots(array, &[None, Some(5)]) && array.validity().is_some();
+    if array.len() != 2 {
+        return false;
+    }
+    array.slice(1, 1);
+    is_masked && has_slots(array, &[Some(5)]) && array.validity().is_none()
+}
+
+/// Whether three numbers without their mask are all values.
+fn is_unmasked(array: &mut Int32Array) -> bool {
     array.set_validity(None);
-    is_masked && has_slots(array, &[Some(-1), Some(5)])
+    has_slots(array, &[Some(7), Some(-1), Some(5)])
 }
 
 #[test]
@@ -104,6 +116,15 @@ fn numbers_come_in_order_from_both_ends(rt: HostRuntime) -> Result<(), Fail> {
     let is_cut = is_cut(&mut array);
     drop(array);
     assert!(rt; are_numbers && is_cut);
+    Ok(())
+}
+
+#[test]
+fn a_mask_is_taken_away(rt: HostRuntime) -> Result<(), Fail> {
+    let mut array = numbers(rt.alloc(), true, Some(3))?;
+    let is_unmasked = is_unmasked(&mut array);
+    drop(array);
+    assert!(rt; is_unmasked);
     Ok(())
 }
 
@@ -178,6 +199,36 @@ impl Alike for OffsetsBuffer<i64> {
     }
 }
 
+impl Alike for Offsets<i64> {
+    fn is_alike(&self, other: &Offsets<i64>) -> bool {
+        self.as_slice() == [0, 2].as_slice() && other.as_slice() == self.as_slice()
+    }
+}
+
+impl Alike for MutableBitmap {
+    fn is_alike(&self, other: &MutableBitmap) -> bool {
+        self.len() == 2 && other.len() == 2 && !self.get(1) && !other.get(1)
+    }
+}
+
+impl Alike for BitmapBuilder {
+    fn is_alike(&self, other: &BitmapBuilder) -> bool {
+        self.len() == 2 && other.len() == 2 && !self.get(1) && !other.get(1)
+    }
+}
+
+impl Alike for Ids {
+    fn is_alike(&self, other: &Ids) -> bool {
+        self.as_slice() == [5, 7].as_slice() && other.as_slice() == self.as_slice()
+    }
+}
+
+impl Alike for Fields {
+    fn is_alike(&self, other: &Fields) -> bool {
+        self.as_slice() == other.as_slice() && self.len() == 1
+    }
+}
+
 impl Alike for Buffer<i32> {
     fn is_alike(&self, other: &Buffer<i32>) -> bool {
         self.as_slice() == [7, -1, 5].as_slice() && other.as_slice() == self.as_slice()
@@ -222,6 +273,54 @@ fn is_copied<T: TryClone + Alike + Drop, E: Drop>(alloc: Global, made: Result<T,
 
 fn offsets(alloc: Global) -> Mem<OffsetsBuffer<i64>> {
     Offsets::new(alloc)?.freeze()
+}
+
+/// Offsets of one slot of two items.
+fn growing_offsets(alloc: Global) -> Mem<Offsets<i64>> {
+    match Offsets::try_from_vec(Vec::from_slice(alloc, &[0, 2])?) {
+        Ok(offsets) => Ok(offsets),
+        Err(_) => Err(AllocError),
+    }
+}
+
+/// A set bit and an unset one.
+fn push_bits(bits: &mut MutableBitmap) -> Mem<()> {
+    bits.push(true)?;
+    bits.push(false)
+}
+
+fn growing_bits(alloc: Global) -> Mem<MutableBitmap> {
+    let mut bits = MutableBitmap::new(alloc);
+    push_bits(&mut bits)?;
+    Ok(bits)
+}
+
+/// The same to grow into a mask.
+fn push_mask(bits: &mut BitmapBuilder) -> Mem<()> {
+    bits.push(true)?;
+    bits.push(false)
+}
+
+fn growing_mask(alloc: Global) -> Mem<BitmapBuilder> {
+    let mut bits = BitmapBuilder::new(alloc);
+    push_mask(&mut bits)?;
+    Ok(bits)
+}
+
+fn fields(alloc: Global) -> Mem<Fields> {
+    let name = PlSmallStr::try_from_str(alloc, "a")?;
+    let field = Field::new(name, ArrowDataType::Utf8, true);
+    Ok(Fields::from_vec(vec![in alloc; field]?))
+}
+
+#[test]
+fn copies_of_what_grows_are_alike(rt: HostRuntime) {
+    let alloc = rt.alloc();
+    assert!(rt; is_copied(alloc, growing_offsets(alloc)));
+    assert!(rt; is_copied(alloc, growing_bits(alloc)) && is_copied(alloc, growing_mask(alloc)));
+    assert!(rt;
+        is_copied(alloc, fields(alloc)) && is_copied(alloc, Ids::from_slice(alloc, &[5, 7]))
+    );
 }
 
 #[test]

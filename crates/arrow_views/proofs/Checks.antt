@@ -6,6 +6,7 @@ use Rattle.std.specs.List.{AllByRecursion}
 use Rattle.std.proofs.lemmas.List.{length-map, length-append, take-map, drop-map, length-drop, drop-drop}
 use Rattle.arrow_flat.specs.Natives.{octets}
 use Rattle.arrow_flat.specs.Views.{View, inline, long, view_length, view_bytes, IsView}
+use Rattle.arrow_views.specs.ViewBytes.{octets_same, bytes_take}
 use Rattle.arrow_views.specs.ViewParts.{le_bytes, bytes_of, buffer_of, offset_of, prefix_of, IsPlaced}
 
 -- ---- lists of bytes under `octets`
@@ -47,6 +48,12 @@ padded r (inline m bs) n rest buffers h l e is d =
     let many : length rest ≡ 12 - m = ap length at ∙ length-drop m bs ∙ ap (λ k. k - m) h.1 in
     (λ t. (h.0, h.1, sym at ∙ d.0 t ∙ ap (λ k. replicate k 0) many, h.2), λ p. d.1 (at ∙ p.2 ∙ ap (λ k. replicate k 0) (sym many)))
 padded r (long m p b o) n rest buffers h l e is d = absurd (let big = h.0 in omega arith)
+
+pub inline_octets : (v : View) (n : ℕ) (buffers : List (List ℕ)) → IsPlaced v → view_length v ≤ 12 → n ≡ view_length v → octets (take (4 + n - 4) (drop 4 (bytes_of v))) ≡ view_bytes buffers v
+inline_octets (inline m bs) n buffers h l e =
+    let q : 4 + n - 4 ≡ m = omega arith in
+    ap (λ k. octets (take k bs)) q ∙ octets_same (take m bs) (bytes_take m bs h.2)
+inline_octets (long m p b o) n buffers h l e = absurd (let big = h.0 in omega arith)
 
 -- ---- a view that names its value
 module _ (raw : List (List ℕ)) where

@@ -1,4 +1,6 @@
 pub mod Borders
 pub mod Checks
+pub mod Packed
 pub mod Packing
+pub mod TextRanges
 pub mod Windows

@@ -1,5 +1,5 @@
 -- Windows of views.
-use Rattle.std.proofs.Common.{◌≡◌, ℕ, zero, suc, ◌+◌, ◌≤◌, Option, Bool, true, false, List, [], ◌∷◌, length, take, drop, ap, sym, ◌∙◌, subst}
+use Rattle.std.proofs.Common.{◌≡◌, ℕ, zero, suc, ◌+◌, ◌≤◌, Option, Bool, true, false, List, [], ◌∷◌, length, take, drop, ap, sym, ◌∙◌, subst, Some}
 use Rattle.std.specs.List.{AllByRecursion}
 use Rattle.std.specs.Prelude.{IsUtf8}
 use Rattle.std.proofs.lemmas.List.{length-map, take-map, drop-map}
@@ -7,10 +7,14 @@ use Rattle.arrow_flat.specs.Pieces.{AreTexts}
 use Rattle.arrow_buffers.specs.Bits.{Bits}
 use Rattle.arrow_buffers.proofs.Windows.{window_length}
 use Rattle.arrow_types.specs.declared.datatype.ArrowDataType.{ArrowDataType}
-use Rattle.arrow_flat.specs.Primitives.{MaskHasLength, window_mask}
+use Rattle.arrow_types.specs.Carried.{IsCarried}
+use Rattle.arrow_types.specs.Seen.{seen}
+use Rattle.arrow_types.specs.declared.datatype.PhysicalType.{PhysicalType}
+use Rattle.arrow_flat.specs.Natives.{IsStoredFlat}
+use Rattle.arrow_flat.specs.Primitives.{MaskHasLength, IsLed, cut_mask}
 use Rattle.arrow_flat.specs.Views.{View, IsView, view_bytes}
-use Rattle.arrow_flat.proofs.Masked.{slots_length, cut_fits, cut_led}
-use Rattle.arrow_views.specs.ViewArrays.{ViewArray, IsSound, AreTextsIf, values_in, values_of, slots}
+use Rattle.arrow_flat.proofs.Masked.{slots_length, cut_fits}
+use Rattle.arrow_views.specs.ViewArrays.{ViewArray, IsViewArray, IsSound, physical_view, AreTextsIf, values_in, values_of, slots}
 
 module _ {A : Type 0} (P : A → Type 0) where
   all_take : (n : ℕ) (xs : List A) → AllByRecursion P xs → AllByRecursion P (take n xs)
@@ -44,16 +48,26 @@ pub slots_count : (a : ViewArray) → MaskHasLength a.mask (length a.views) → 
 slots_count a h = slots_length a.mask (values_of a) (values_fit a h) ∙ values_count a
 
 -- ---- the array of a window
-pub sound_window : (text : Bool) (t : ArrowDataType) (m m' : Option Bits) (vs vs' : List View) (buffers : List (List ℕ)) (o n : ℕ) → IsSound text t m vs buffers → o + n ≤ length vs
-    → m' ≡ window_mask m o n → vs' ≡ take n (drop o vs) → IsSound text t m' vs' buffers
+pub sound_window : (text : Bool) (t : ArrowDataType) (m m' : Option Bits) (vs vs' : List View) (buffers : List (List ℕ)) (o n : ℕ) → IsViewArray text t m vs buffers → o + n ≤ length vs
+    → m' ≡ cut_mask o n m → vs' ≡ take n (drop o vs) → IsViewArray text t m' vs' buffers
 sound_window text t m m' vs vs' buffers o n h range is views =
-    subst (λ m. IsSound text t m vs' buffers) (sym is) (subst (λ vs. IsSound text t (window_mask m o n) vs buffers) (sym views) record {
-      array = record {
-        fits = subst (MaskHasLength (window_mask m o n)) (window_length vs o n range) (cut_fits m (length vs) o n h.array.fits range);
-        led = cut_led m o n;
-        stored = h.array.stored;
-        carried = h.array.carried;
+    subst (λ m. IsViewArray text t m vs' buffers) (sym is) (subst (λ vs. IsViewArray text t (cut_mask o n m) vs buffers) (sym views) record {
+      laid = record {
+        fits = subst (MaskHasLength (cut_mask o n m)) (window_length vs o n range) (cut_fits m (length vs) o n h.laid.fits range);
+        stored = h.laid.stored;
       };
       placed = part_all (IsView buffers) o n vs h.placed;
       texts = texts_part text buffers o n vs h.texts;
     })
+
+-- ---- what an array keeps, with what its parts keep
+pub stored_flat : (text : Bool) (p : Option PhysicalType) → p ≡ Some (physical_view text) → IsStoredFlat p
+stored_flat true p e = subst IsStoredFlat (sym e) tt
+stored_flat false p e = subst IsStoredFlat (sym e) tt
+
+pub sound_parts : (text : Bool) (t : ArrowDataType) (m : Option Bits) (vs : List View) (buffers : List (List ℕ)) → IsViewArray text t m vs buffers → IsLed m → IsCarried (seen t) → IsSound text t m vs buffers
+sound_parts text t m vs buffers h led carried = record {
+  array = record { fits = h.laid.fits; led = led; stored = h.laid.stored; carried = carried };
+  placed = h.placed;
+  texts = h.texts;
+}

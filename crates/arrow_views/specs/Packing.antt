@@ -1,6 +1,6 @@
 -- How one value more is packed.
 use Rattle.std.specs.Prelude.{ℕ, ◌+◌, ◌-◌, nat_le, nat_lt, Bool, ◌&&◌, cond, List, [], ◌∷◌, ◌++◌, length, get_or, slice_set}
-use Rattle.arrow_flat.specs.Views.{View}
+use Rattle.arrow_flat.specs.Views.{View, is_short}
 use Rattle.arrow_flat.specs.Packs.{view_after}
 
 -- the most bytes that a buffer has, and the buffers so far
@@ -26,3 +26,11 @@ packed_on limit buffers value =
 -- The view of the value there.
 abbrev pub packed_view : ℕ → List (List ℕ) → List ℕ → View
 packed_view limit buffers value = view_after limit (packed_end buffers).0 (packed_end buffers).1 value
+
+-- The packer with one value more of more than twelve bytes, and with any value more.
+abbrev pub packed_more : Packing → List ℕ → Packing
+packed_more p value = record { limit = p.limit; buffers = packed_on p.limit p.buffers value }
+
+abbrev pub packed_after : Packing → List ℕ → Packing
+packed_after p value =
+    record { limit = p.limit; buffers = cond (is_short value) p.buffers (packed_on p.limit p.buffers value) }

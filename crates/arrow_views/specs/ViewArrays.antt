@@ -1,5 +1,5 @@
--- What a contract sees of an array of byte strings or texts by views.
-use Rattle.std.specs.Prelude.{◌≡◌, ◌-◌, ℕ, Bool, true, false, List, length, map, take, drop, Option, Some, None}
+-- What a contract sees of an array of binary values or of strings by views.
+use Rattle.std.specs.Prelude.{◌≡◌, ℕ, Bool, true, false, List, length, map, take, drop, Option, Some, None}
 use Rattle.std.specs.Borrow.{Bor}
 use Rattle.std.specs.List.{AllByRecursion}
 use Rattle.arrow_buffers.specs.Bits.{Bits}
@@ -9,12 +9,12 @@ use Rattle.arrow_types.specs.declared.datatype.ArrowDataType.{ArrowDataType}
 use Rattle.arrow_types.specs.declared.datatype.PhysicalType.{PhysicalType}
 use Rattle.arrow_types.specs.declared.datatype.PhysicalType.TheVariants as physical
 use Rattle.arrow_types.specs.declared.error.PolarsError.{PolarsError}
-use Rattle.arrow_types.specs.declared.error.PolarsError.TheVariants.{ComputeError}
+use Rattle.arrow_types.specs.declared.error.PolarsError.TheVariants.{ComputeError, OutOfMemory}
 use Rattle.arrow_types.specs.declared.error.Reason.{Reason}
 use Rattle.arrow_types.specs.declared.error.Reason.TheVariants.{ViewRange, NotUtf8}
 use Rattle.arrow_flat.specs.Natives.{octets}
 use Rattle.arrow_flat.specs.Pieces.{AreTexts}
-use Rattle.arrow_flat.specs.Primitives.{IsArray, MaskHasLength, window_mask, half_mask, masked_values}
+use Rattle.arrow_flat.specs.Primitives.{IsArray, IsLaidOut, MaskHasLength, cut_mask, masked_values}
 use Rattle.arrow_flat.specs.Refusals as flat
 use Rattle.arrow_flat.specs.Views.{View, IsView, view_bytes}
 
@@ -42,6 +42,12 @@ AreTextsIf true values = AreTexts values
 AreTextsIf false values = Unit {0}
 
 -- What every such array keeps.
+pub record IsViewArray (text : Bool) (t : ArrowDataType) (m : Option Bits) (views : List View) (buffers : List (List ℕ)) : Type 0 where
+  pub laid : IsLaidOut (physical_view text) t m (length views)
+  pub placed : AreViews buffers views
+  pub texts : AreTextsIf text (values_in buffers views)
+
+-- The same with what the parts keep.
 pub record IsSound (text : Bool) (t : ArrowDataType) (m : Option Bits) (views : List View) (buffers : List (List ℕ)) : Type 0 where
   pub array : IsArray (physical_view text) t m (length views)
   pub placed : AreViews buffers views
@@ -60,6 +66,15 @@ abbrev pub Refused : PolarsError → Bool → ArrowDataType → Option Bits → 
 Refused (ComputeError reason) text t m views buffers = RefusedFor reason text t m views buffers
 Refused _ text t m views buffers = ⊥
 
+-- The same of a call that takes memory.
+abbrev pub RefusedIn : PolarsError → Bool → ArrowDataType → Option Bits → List View → List (List ℕ) → Type 0
+RefusedIn OutOfMemory text t m views buffers = Unit {0}
+RefusedIn e text t m views buffers = Refused e text t m views buffers
+
+-- The array of these parts.
+abbrev pub view_array : ArrowDataType → List View → List (List ℕ) → Option Bits → ViewArray
+view_array t views buffers m = record { dtype = t; views = views; buffers = buffers; mask = m }
+
 abbrev pub values_of : ViewArray → List (List ℕ)
 values_of a = values_in a.buffers a.views
 
@@ -76,14 +91,13 @@ seen_octets (Some b) = Some (octets b.now)
 
 -- The array of n slots from `offset` on, of the same buffers.
 abbrev pub cut : ViewArray → ℕ → ℕ → ViewArray
-cut a offset n = record { dtype = a.dtype; views = take n (drop offset a.views); buffers = a.buffers; mask = window_mask a.mask offset n }
+cut a offset n = record {
+  dtype = a.dtype;
+  views = take n (drop offset a.views);
+  buffers = a.buffers;
+  mask = cut_mask offset n a.mask;
+}
 
--- The half of n slots from `offset` on, whose mask goes where it has no unset bit; the first n slots, and the others.
-abbrev pub half : ViewArray → ℕ → ℕ → ViewArray
-half a offset n = record { dtype = a.dtype; views = take n (drop offset a.views); buffers = a.buffers; mask = half_mask a.mask offset n }
-
-abbrev pub front : ViewArray → ℕ → ViewArray
-front a n = half a 0 n
-
-abbrev pub rest : ViewArray → ℕ → ViewArray
-rest a n = half a n (length a.views - n)
+-- The array with another mask, or none.
+abbrev pub with_mask : Option Bits → ViewArray → ViewArray
+with_mask m a = view_array a.dtype a.views a.buffers m

@@ -1,7 +1,7 @@
 -- Views are their sixteen bytes.
 use Rattle.std.specs.Prelude.{◌≡◌, ℕ, zero, suc, ◌+◌, ◌-◌, ◌%◌, ◌^◌, ◌<◌, ◌≤◌, Bool, true, false, nat_le, cond, List, [], ◌∷◌, ◌++◌, take, drop, get_or, length, replicate, refl}
 use Rattle.std.specs.Int.{w32, from_le_bytes}
-use Rattle.std.proofs.Common.{ap, sym, ◌∙◌, arith}
+use Rattle.std.proofs.Common.{Fits, w8, ap, sym, ◌∙◌, arith}
 use Rattle.std.proofs.lemmas.Bool.{le-leb}
 use Rattle.std.proofs.lemmas.Bool.Decides.{nat_tests}
 use Rattle.std.proofs.lemmas.List.{length-take-le, length-drop, take-append-drop, drop-drop, drop-replicate}
@@ -35,6 +35,10 @@ bytes_from (b ∷ bs) h = (h 0 (omega arith), bytes_from bs (λ i l. h (suc i) (
 pub octets_same : (bs : List ℕ) → AreBytes bs → octets bs ≡ bs
 octets_same [] h = refl
 octets_same (b ∷ bs) h = ap (λ c. c ∷ octets bs) (let q : b % 256 ≡ b = omega (arith, h.0) in q) ∙ ap (λ cs. b ∷ cs) (octets_same bs h.1)
+
+-- bytes that the program holds
+pub own_octets : (bs : List ℕ) → ((i : ℕ) → Fits w8 (get_or bs i 0)) → octets bs ≡ bs
+own_octets bs h = octets_same bs (bytes_from bs (λ i l. omega (arith, h i)))
 
 -- ---- numbers of four bytes
 four_at : (at : ℕ) (bs : List ℕ) → at + 4 ≤ length bs → length (take 4 (drop at bs)) ≡ 4

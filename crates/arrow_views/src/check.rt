@@ -1,5 +1,5 @@
-//! Whether a view stands for a value as it should: zeros stand behind a value that it holds; another value is within its buffer,
-//! and begins with the bytes that the view tells.
+//! Whether a view stands for a value as it should: zeros stand behind a value that it holds;
+//! another value is within its buffer, and begins with the bytes that the view tells.
 ghost use Rattle.std.specs.Prelude.{◌≡◌, ◌↔◌, ◌≤◌, ◌<◌, ℕ, List, length as count, map, take, replicate, IsTrue};
 ghost use Rattle.arrow_flat.specs.Natives.{octets};
 ghost use Rattle.arrow_flat.specs.Views.{IsView, view_length};
@@ -7,7 +7,6 @@ ghost use Rattle.arrow_views.specs.ViewArrays.{AreViews};
 ghost use Rattle.arrow_views.specs.ViewParts.{prefix_of};
 
 use crate::View;
-use crate::octets::know_bytes;
 use arrow_buffers::Buffer;
 
 /// Whether each view stands for a value in these buffers.
@@ -74,6 +73,5 @@ fn begins_with_prefix(value: &[u8], view: &View) -> bool
     requires { 12 < count value.now }
     ensures { IsTrue result ↔ (prefix_of view.now ≡ take 4 (octets value.now)) }
 {
-    know_bytes(value);
     view.as_bytes()[4..8] == value[..4]
 }

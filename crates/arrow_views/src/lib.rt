@@ -1,20 +1,19 @@
-//! Arrays of byte strings and texts by views: sixteen bytes a slot, which hold a short value or tell where a long one stands.
+//! Arrays of binary values and of strings by views: sixteen bytes a slot, which hold a short value
+//! or name where a long one is.
 #![tactic(auto)]
 
 mod binary_view;
-mod binview;
 mod check;
-mod iter;
-mod kind;
-mod octets;
 mod packer;
-mod stored;
 mod text;
+mod text_ends;
 mod utf8_view;
 mod view;
+mod view_array;
 
-pub use binview::{BinaryViewArray, BinaryViewArrayGeneric, Utf8ViewArray};
-pub use iter::{ViewIter, ViewValuesIter};
-pub use kind::{ViewBytes, ViewStr, ViewType};
-pub use packer::ViewPacker;
+pub use arrow_flat::{ViewBytes, ViewStr, ViewType};
+pub use binary_view::{BinaryViewIter, BinaryViewValuesIter};
+pub use packer::{BinaryValues, ViewPacker, pack_values};
+pub use utf8_view::{Utf8ViewIter, Utf8ViewValuesIter};
 pub use view::View;
+pub use view_array::{BinaryViewArray, BinaryViewArrayGeneric, Utf8ViewArray};

@@ -1,12 +1,21 @@
-//! Arrays of texts by views.
-ghost use Rattle.std.specs.Prelude.{◌≡◌, ◌<◌, length as count, slice_get, Some};
-ghost use Rattle.std.specs.Iterator.{YieldsFirstBy, YieldsLastBy, item_count};
+//! What arrays of strings by views are read as.
+ghost use Rattle.std.specs.Prelude.{◌≡◌, ◌<◌, length as count, slice_get, Some, refl};
 ghost use Rattle.arrow_flat.specs.Natives.{octets};
-ghost use Rattle.arrow_views.specs.ViewArrays.{values_of, slots, lent_octets, seen_octets};
+ghost use Rattle.arrow_views.specs.ViewArrays.{values_of, slots, seen_octets};
 
-use crate::octets::know_bytes;
-use crate::{BinaryViewArrayGeneric, ViewIter, ViewStr, ViewValuesIter};
-use std::iter::FusedIterator;
+use crate::{BinaryViewArrayGeneric, ViewStr};
+use arrow_flat::validity::is_valid;
+use arrow_flat::{ArrayAccessor, ArrayIter, ArrayValuesIter, ByteString};
+
+/// The slots of an array of strings by views, `None` for a null.
+pub type Utf8ViewIter<'a> = ArrayIter<&'a BinaryViewArrayGeneric<ViewStr>, &'a str, ByteString>;
+
+/// The values of an array of strings by views, those under nulls too.
+pub type Utf8ViewValuesIter<'a> = ArrayValuesIter<
+    &'a BinaryViewArrayGeneric<ViewStr>,
+    &'a str,
+    ByteString,
+>;
 
 impl BinaryViewArrayGeneric<ViewStr> {
     /// The value at a slot, under a null too.
@@ -14,134 +23,58 @@ impl BinaryViewArrayGeneric<ViewStr> {
         requires { i < count self.now.views }
         ensures { slice_get (values_of self.now) i ≡ Some (octets result.now) }
     {
-        self.dtype();
         let bytes = self.value_bytes(i);
-        know_bytes(bytes);
         // Each slot's bytes are UTF-8: the array keeps that.
         unsafe { std::str::from_utf8_unchecked(bytes) }
     }
 
-    /// The value at a slot, None where it is null.
+    /// The value at a slot, `None` where it is null.
     pub fn get(&self, i: usize) -> Option<&str>
         requires { i < count self.now.views }
         ensures { slice_get (slots self.now) i ≡ Some (seen_octets result) }
     {
-        self.dtype();
-        if self.is_valid(i) {
-            Some(self.value(i))
-        } else {
-            None
-        }
+        ArrayAccessor::get(self, i)
     }
 
-    /// Each slot in order, None for a null, from both ends.
-    pub fn iter(&self) -> ViewIter<'_, ViewStr>
+    /// Each slot in order, `None` for a null, from both ends.
+    pub fn iter(&self) -> Utf8ViewIter<'_>
         ensures { result ≡ slots self.now }
     {
-        self.dtype();
-        ViewIter {
-            array: self,
-            front: 0,
-            back: self.len(),
-        }
+        Utf8ViewIter::new(self)
     }
 
     /// Each value in order, those under nulls too, from both ends.
-    pub fn values_iter(&self) -> ViewValuesIter<'_, ViewStr>
+    pub fn values_iter(&self) -> Utf8ViewValuesIter<'_>
         ensures { result ≡ values_of self.now }
     {
-        ViewValuesIter {
-            array: self,
-            front: 0,
-            back: self.len(),
-        }
+        Utf8ViewValuesIter::new(self)
     }
 }
 
-impl<'a> Iterator for ViewIter<'a, ViewStr> {
-    type Item = Option<&'a str>;
+impl<'a> ArrayAccessor<&'a str, ByteString> for &'a BinaryViewArrayGeneric<ViewStr> {
+    ghost use Rattle.arrow_views.specs.ViewArrays.{lent_octets};
 
-    ghost next_gives = { YieldsFirstBy seen_octets (λ rest. rest) };
+    ghost seen = { lent_octets };
 
-    ghost remaining = { item_count (λ rest. rest) };
+    ghost seen_slot = { seen_octets };
 
-    fn next(&mut self) -> Option<Option<&'a str>> {
-        if self.front == self.back {
-            return None;
-        }
-        let array = self.array;
-        let slot = array.get(self.front);
-        self.front += 1;
-        Some(slot)
+    ghost values = { λ a. values_of a.now };
+
+    ghost mask = { λ a. a.now.mask };
+
+    fn len(self) -> usize {
+        self.views.len()
     }
 
-    fn size_hint(&self) -> (usize, Option<usize>) {
-        let len = self.len();
-        (len, Some(len))
+    fn is_valid(self, i: usize) -> bool {
+        is_valid(&self.validity, i)
     }
+
+    fn value(self, i: usize) -> &'a str {
+        BinaryViewArrayGeneric::<ViewStr>::value(self, i)
+    }
+
+    ghost of_value = { λ x. refl };
+
+    ghost of_null = { refl };
 }
-
-impl<'a> DoubleEndedIterator for ViewIter<'a, ViewStr> {
-    ghost next_back_gives = { YieldsLastBy seen_octets (λ rest. rest) };
-
-    fn next_back(&mut self) -> Option<Option<&'a str>> {
-        if self.front == self.back {
-            return None;
-        }
-        self.back -= 1;
-        let array = self.array;
-        Some(array.get(self.back))
-    }
-}
-
-impl<'a> ExactSizeIterator for ViewIter<'a, ViewStr> {
-    fn len(&self) -> usize {
-        self.back - self.front
-    }
-}
-
-impl<'a> FusedIterator for ViewIter<'a, ViewStr> {}
-
-impl<'a> Iterator for ViewValuesIter<'a, ViewStr> {
-    type Item = &'a str;
-
-    ghost next_gives = { YieldsFirstBy lent_octets (λ rest. rest) };
-
-    ghost remaining = { item_count (λ rest. rest) };
-
-    fn next(&mut self) -> Option<&'a str> {
-        if self.front == self.back {
-            return None;
-        }
-        let array = self.array;
-        let value = array.value(self.front);
-        self.front += 1;
-        Some(value)
-    }
-
-    fn size_hint(&self) -> (usize, Option<usize>) {
-        let len = self.len();
-        (len, Some(len))
-    }
-}
-
-impl<'a> DoubleEndedIterator for ViewValuesIter<'a, ViewStr> {
-    ghost next_back_gives = { YieldsLastBy lent_octets (λ rest. rest) };
-
-    fn next_back(&mut self) -> Option<&'a str> {
-        if self.front == self.back {
-            return None;
-        }
-        self.back -= 1;
-        let array = self.array;
-        Some(array.value(self.back))
-    }
-}
-
-impl<'a> ExactSizeIterator for ViewValuesIter<'a, ViewStr> {
-    fn len(&self) -> usize {
-        self.back - self.front
-    }
-}
-
-impl<'a> FusedIterator for ViewValuesIter<'a, ViewStr> {}

@@ -1,17 +1,17 @@
 //! Views: the sixteen bytes of a slot.
 ghost use Rattle.std.specs.Prelude.{◌≡◌, ◌+◌, ◌<◌, ◌≤◌, length as count};
-ghost use Rattle.arrow_flat.specs.Natives.{octets};
+ghost use Rattle.arrow_flat.specs.Natives.{octets, AreBytes};
 ghost use Rattle.arrow_flat.specs.Views.{long, inline_view, view_length};
 ghost use Rattle.arrow_views.specs.ViewParts.{number_at, view_of, bytes_of, buffer_of, offset_of, IsPlaced};
 
-use crate::octets::know_bytes;
 use arrow_flat::TryClone;
 use arrow_types::Mem;
 use std::alloc::Global;
 use std::marker::Model;
 
-/// The sixteen bytes of a slot: the length of its value, then twelve bytes that begin with a value of at most twelve, or else the
-/// first four bytes of the value, the number of its buffer and its offset there. Each number has four bytes, the lowest first.
+/// The sixteen bytes of a slot: the length of its value, then twelve bytes that begin with a value
+/// of at most twelve, or else the first four bytes of the value, the number of its buffer and its
+/// offset there. Each number has four bytes, the lowest first.
 ///
 /// The Arrow Columnar Format's variable-size binary view layout.
 #[derive(Clone, Copy, PartialEq, Eq)]
@@ -38,7 +38,8 @@ impl Model for View {
 
     ghost inverse = { λ v. record { bytes = bytes_of v } };
 
-    ghost inverse_ok = { λ v h. ap (λ bytes. record { bytes = bytes }) (bytes_back v.bytes h.0 h.1) };
+    ghost inverse_ok = { λ v h.
+        ap (λ bytes. record { bytes = bytes }) (bytes_back v.bytes h.0 h.1) };
 }
 
 impl View {
@@ -46,7 +47,7 @@ impl View {
     pub fn from_bytes(bytes: [u8; 16]) -> View
         ensures { result ≡ view_of bytes }
     {
-        know_bytes(&bytes);
+        invariant(&bytes);
         View { bytes }
     }
 
@@ -61,7 +62,8 @@ impl View {
         View { bytes }
     }
 
-    /// The view of a longer value: its length, its first four bytes, the number of its buffer and where it begins there.
+    /// The view of a longer value: its length, its first four bytes, the number of its buffer and
+    /// where it begins there.
     pub fn new_long(length: u32, prefix: [u8; 4], buffer: u32, offset: u32) -> View
         requires { 12 < length }
         ensures { result ≡ long length prefix buffer offset }
@@ -94,20 +96,27 @@ impl View {
         number(&self.bytes, 0)
     }
 
-    /// The number of the buffer of a value of more than twelve bytes; of another view the number that stands there.
+    /// The number of the buffer of a value of more than twelve bytes; of another view the number
+    /// that stands there.
     pub fn buffer(&self) -> u32
         ensures { result ≡ buffer_of self.now }
     {
         number(&self.bytes, 8)
     }
 
-    /// Where a value of more than twelve bytes begins in its buffer; of another view the number that stands there.
+    /// Where a value of more than twelve bytes begins in its buffer; of another view the number
+    /// that stands there.
     pub fn offset(&self) -> u32
         ensures { result ≡ offset_of self.now }
     {
         number(&self.bytes, 12)
     }
 }
+
+/// For proofs alone: bytes are below 256.
+fn invariant(bytes: &[u8])
+    ensures { AreBytes bytes.now }
+{}
 
 /// The number of the four bytes from `at` on, the lowest first.
 fn number(bytes: &[u8; 16], at: usize) -> u32

@@ -1,4 +1,5 @@
-//! What the tests of several files make and look for: buffers, masks, items in order, copies and halves.
+//! What several files of tests make and look for: buffers, masks, items in order, copies and
+//! halves.
 #![tactic(auto)]
 
 ghost use Rattle.std.specs.Iterator.{IsFinite};

@@ -1,8 +1,8 @@
 use Rattle.std.proofs.Common.{◌+◌, ◌*◌, ◌/◌, ◌%◌, ◌≤◌, length, ap, sym, ◌∙◌, subst}
 use Rattle.arrow_buffers.proofs.Windows.{window_length}
 use Rattle.arrow_bytes.specs.FixedSizeBinaries.{slot_count}
-use Rattle.arrow_flat.specs.Primitives.{MaskHasLength, IsLed}
-use Rattle.arrow_flat.proofs.Masked.{cut_fits, cut_led}
+use Rattle.arrow_flat.specs.Primitives.{MaskHasLength}
+use Rattle.arrow_flat.proofs.Masked.{cut_fits}
 use Rattle.arrow_flat.proofs.Pieces.{span_within, whole_multiple, whole_count}
 use Rattle.arrow_bytes.proofs.fixed_size_binary.FixedSizeBinaryArray.slice.Goals as goal
 
@@ -26,6 +26,4 @@ invariant_of-self c =
       positive = c.self.invariant.positive;
       multiple = ap (λ n. n % k) bytes ∙ whole_multiple c.args.length k c.self.invariant.positive;
       fits = subst (MaskHasLength c.slice_mask.new.validity) (sym count) fits;
-      led = subst IsLed (sym c.slice_mask.ensures) (cut_led a.validity c.args.offset c.args.length);
-      carried = c.self.invariant.carried;
     }

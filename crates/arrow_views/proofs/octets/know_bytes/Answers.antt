@@ -1,8 +1,0 @@
-use Rattle.std.proofs.Common.{arith}
-use Rattle.arrow_views.specs.ViewBytes.{bytes_from, octets_same}
-use Rattle.arrow_views.proofs.octets.know_bytes.Goals as goal
-
-pub returns : goal.returns
-returns c =
-    let small = bytes_from c.args.bytes.now (λ i l. omega (arith, c.type_inv.bytes i)) in
-    record { small = small; same = octets_same c.args.bytes.now small }
