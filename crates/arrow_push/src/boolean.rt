@@ -1,25 +1,17 @@
 //! The builder of bits.
-ghost use Rattle.std.specs.Prelude.{◌≡◌, Some};
-ghost use Rattle.std.specs.Coded.{codes};
-ghost use Rattle.std.proofs.Props.{props};
-ghost use Rattle.arrow_types.specs.Seen.{seen as type_of};
-ghost use Rattle.arrow_types.specs.Types.{physical_of};
-ghost use Rattle.arrow_types.specs.declared.datatype.PhysicalType.TheVariants as physical;
-ghost use Rattle.arrow_types.specs.contracts.datatype.PhysicalType as physical_type;
-
 use crate::mask::push_bits;
 use crate::{FreshValues, MaskedBuilder, SolidValues, TryPush, ValuesBuilder, ValuesLaws};
 use arrow_buffers::{Bitmap, MutableBitmap};
-use arrow_flat::{BooleanArray, Building};
+use arrow_flat::{BooleanArray, Building, TryClone};
 use arrow_types::{ArrowDataType, Mem, PolarsResult};
 use std::alloc::Global;
+use std::marker::Model;
 
-/// A builder of bits, without nulls.
+/// A builder of bits, without nulls, seen as its type and its bits.
 pub struct BooleanValues {
     dtype: ArrowDataType,
     values: MutableBitmap,
     alloc: Global,
-    ghost stored: { physical_of (type_of dtype) ≡ Some physical.Boolean } by { Prim.hlevel (props, codes, physical_type.the_row.coded) },
 }
 
 /// By hand, so that each place where a value may end has one call to prove, and not the drop of every field.
@@ -33,29 +25,49 @@ impl Drop for BooleanValues {
     }
 }
 
+impl Model for BooleanValues {
+    ghost use Rattle.std.specs.Prelude.{◌≡◌, Bool, Some};
+    ghost use Rattle.std.specs.Coded.{codes};
+    ghost use Rattle.arrow_types.specs.Seen.{seen as type_of};
+    ghost use Rattle.arrow_types.specs.Types.{physical_of};
+    ghost use Rattle.arrow_types.specs.declared.datatype.PhysicalType.TheVariants as physical;
+    ghost use Rattle.arrow_types.specs.contracts.datatype.ArrowDataType as data_type;
+    ghost use Rattle.arrow_push.specs.Flat.{TypedValues};
+
+    ghost Value = { TypedValues Bool };
+
+    ghost coded = { Prim.hlevel (codes, data_type.the_row.coded) };
+
+    ghost view = { λ b. record { dtype = b.dtype; values = b.values } };
+
+    ghost invariant = { λ b. physical_of (type_of b.dtype) ≡ Some physical.Boolean };
+}
+
 /// A builder of bits and nulls.
 pub type MutableBooleanArray = MaskedBuilder<BooleanValues>;
 
 impl Building for BooleanValues {
-    ghost use Rattle.std.specs.Prelude.{refl};
-    ghost use Rattle.arrow_types.specs.Seen.{seen as type_of};
     ghost use Rattle.arrow_flat.specs.Slots.{bool};
     ghost use Rattle.arrow_push.specs.Flat.{built_of};
+    ghost use Rattle.arrow_push.specs.Laws.{flat_starts};
 
-    ghost seen = { λ b. built_of bool (type_of b.dtype) b.values };
+    ghost seen = { built_of bool };
 
-    ghost starts = { λ b. record { none_refused = refl; none_lands = refl } };
+    ghost starts = { flat_starts bool };
 }
 
 impl ValuesLaws for BooleanValues {
     ghost use Rattle.std.specs.Prelude.{false, refl};
     ghost use Rattle.arrow_flat.specs.Slots.{bool};
+    ghost use Rattle.arrow_push.specs.Laws.{flat_valid};
 
     ghost blank = { λ t. bool false };
 
     ghost whole = { λ b. refl };
 
     ghost plain = { λ b ys. refl };
+
+    ghost valid = { λ b. flat_valid bool (λ x. refl) b.values };
 }
 
 impl ValuesBuilder for BooleanValues {
@@ -63,11 +75,15 @@ impl ValuesBuilder for BooleanValues {
     ghost use Rattle.arrow_types.specs.Seen.{seen as type_of};
     ghost use Rattle.arrow_flat.specs.Booleans.{slots};
     ghost use Rattle.arrow_flat.specs.Slots.{bool};
-    ghost use Rattle.arrow_push.specs.Items.{slot_or_null};
+    ghost use Rattle.arrow_flat.specs.Slots.{slot_or_null};
 
     type Array = BooleanArray;
 
-    ghost finished = { λ a. record { dtype = type_of a.dtype; slots = map (slot_or_null bool) (slots a) } };
+    ghost finished = { λ a. record {
+      dtype = type_of a.dtype;
+      slots = map (slot_or_null bool) (slots a);
+      validity = a.mask;
+    } };
 
     fn dtype(&self) -> &ArrowDataType {
         &self.dtype
@@ -109,6 +125,18 @@ impl ValuesBuilder for BooleanValues {
         let dtype = self.dtype.try_clone(self.alloc)?;
         let values = values.freeze()?;
         Ok(BooleanArray::new(dtype, values, validity))
+    }
+}
+
+impl TryClone for BooleanValues {
+    fn try_clone(&self, alloc: Global) -> Mem<BooleanValues> {
+        let values = self.values.try_clone(alloc)?;
+        let dtype = self.dtype.try_clone(alloc)?;
+        Ok(BooleanValues {
+            dtype,
+            values,
+            alloc,
+        })
     }
 }
 

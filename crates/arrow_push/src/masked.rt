@@ -6,10 +6,11 @@ ghost use Rattle.arrow_push.specs.Masks.{with_nulls, count_or, all_filled};
 
 use crate::mask::{extend_mask, freeze_mask, push_bit, reserve_mask, shrink_mask, truncate_mask};
 use crate::{
-    FreshValues, SolidValues, TryExtend, TryExtendFromSelf, TryPush, ValuesBuilder, push_each,
+    FreshValues, NullableBuilder, SolidValues, TryExtend, TryExtendFromSelf, TryPush,
+    ValuesBuilder, push_each,
 };
 use arrow_buffers::MutableBitmap;
-use arrow_flat::Building;
+use arrow_flat::{Building, TryClone};
 use arrow_types::{ArrowDataType, Mem, PolarsResult};
 use std::alloc::Global;
 
@@ -18,7 +19,8 @@ pub struct MaskedBuilder<V: ValuesBuilder> {
     values: V,
     validity: Option<MutableBitmap>,
     ghost fits: { count_or validity (length (V.seen values).slots) ≡ length (V.seen values).slots },
-    ghost bare: { all_filled (V.blank (V.seen values).dtype) (with_nulls validity (V.seen values).slots) ≡ (V.seen values).slots } by { Prim.hlevel (props, slot_code) },
+    ghost bare: { all_filled (V.blank (V.seen values).dtype) (with_nulls validity (V.seen values).slots)
+        ≡ (V.seen values).slots } by { Prim.hlevel (props, slot_code) },
 }
 
 /// By hand, so that each place where a value may end has one call to prove, and not the drop of every field.
@@ -32,65 +34,45 @@ impl<V: ValuesBuilder + Drop> Drop for MaskedBuilder<V> {
 }
 
 impl<V: ValuesBuilder> Building for MaskedBuilder<V> {
-    ghost use Rattle.std.specs.Prelude.{refl};
     ghost use Rattle.arrow_push.specs.Masks.{built_under};
+    ghost use Rattle.arrow_push.specs.Laws.{masked_starts};
 
     ghost seen = { λ b. built_under V.blank (V.seen b.values) b.validity };
 
-    ghost starts = { λ b. record { none_refused = (V.starts b.values).none_refused; none_lands = refl } };
+    ghost starts = { λ b. masked_starts V.blank (V.seen b.values) b.validity (V.starts b.values) b.fits };
 }
 
 impl<V: FreshValues> MaskedBuilder<V> {
-    ghost use Rattle.std.specs.Prelude.{◌≡◌, [], IfOk};
-    ghost use Rattle.arrow_push.specs.Masks.{built_under};
+    ghost use Rattle.std.specs.Prelude.{◌≡◌, [], None, IfOk};
+    ghost use Rattle.arrow_push.specs.State.{state, mask_of};
 
-    /// No slots yet, of the plain type of the values.
+    /// An empty builder of the default type of the values.
     pub fn new(alloc: Global) -> Mem<MaskedBuilder<V>>
-        ensures { IfOk result (λ b. ((built_under V.blank (V.seen b.values) b.validity).slots ≡ []) × ((built_under V.blank (V.seen b.values) b.validity).dtype ≡ V.plain_type)) }
+        ensures slots { IfOk result (λ b. (state b).slots ≡ []) }
+        ensures kind { IfOk result (λ b. (state b).dtype ≡ V.plain_type) }
+        ensures unmasked { IfOk result (λ b. mask_of b ≡ None) }
     {
         Ok(MaskedBuilder::over(V::fresh(alloc)?))
     }
 }
 
 impl<V: ValuesBuilder> MaskedBuilder<V> {
-    ghost use Rattle.std.specs.Prelude.{◌≡◌, ◌≤◌, [], ◌∷◌, length, take, MatchResult, IfOk};
-    ghost use Rattle.arrow_types.specs.Seen.{seen};
-    ghost use Rattle.arrow_flat.specs.Slots.{null};
-    ghost use Rattle.arrow_flat.specs.Built.{Takes, Keeps, Pushes};
-    ghost use Rattle.std.specs.Option.{option_copied};
-    ghost use Rattle.arrow_push.specs.Masks.{built_under};
+    ghost use Rattle.std.specs.Prelude.{◌≡◌, [], None, MatchResult, IfOk};
+    ghost use Rattle.arrow_flat.specs.Built.{Pushes, IsCutTo};
+    ghost use Rattle.arrow_push.specs.Masks.{finished_of};
+    ghost use Rattle.arrow_push.specs.State.{state, mask_of};
 
     /// No slots yet, over a builder without values.
     pub fn over(values: V) -> MaskedBuilder<V>
         requires { (V.seen values).slots ≡ [] }
-        ensures slots { (built_under V.blank (V.seen result.values) result.validity).slots ≡ [] }
-        ensures kind { (built_under V.blank (V.seen result.values) result.validity).dtype ≡ (V.seen values).dtype }
+        ensures slots { (state result).slots ≡ [] }
+        ensures kind { (state result).dtype ≡ (V.seen values).dtype }
+        ensures unmasked { mask_of result ≡ None }
     {
         MaskedBuilder {
             values,
             validity: None,
         }
-    }
-
-    /// The type of the array.
-    pub fn dtype(&self) -> &ArrowDataType
-        ensures { seen result.now ≡ (built_under V.blank (V.seen self.now.values) self.now.validity).dtype }
-    {
-        self.values.dtype()
-    }
-
-    /// The count of slots.
-    pub fn len(&self) -> usize
-        ensures { result ≡ length (built_under V.blank (V.seen self.now.values) self.now.validity).slots }
-    {
-        self.values.len()
-    }
-
-    /// The mask, where there is one: a set bit for each slot that isn't null.
-    pub fn validity(&self) -> Option<&MutableBitmap>
-        ensures { option_copied result ≡ self.now.validity }
-    {
-        self.validity.as_ref()
     }
 
     /// The values, with a blank under each null.
@@ -105,34 +87,18 @@ impl<V: ValuesBuilder> MaskedBuilder<V> {
         self.values.allocator()
     }
 
-    /// Appends a null. Where memory is short the slots stay.
-    pub fn push_null(&mut self) -> Mem<()>
-        ensures { MatchResult result
-            (λ _. Takes (built_under V.blank (V.seen self.old.values) self.old.validity) (built_under V.blank (V.seen self.new.values) self.new.validity) (null ∷ []))
-            (λ _. Keeps (built_under V.blank (V.seen self.old.values) self.old.validity) (built_under V.blank (V.seen self.new.values) self.new.validity)) }
-    {
-        let alloc = self.values.allocator();
-        let len = self.values.len();
-        self.values.push_blank()?;
-        if let Err(refused) = push_bit(alloc, &mut self.validity, len, false) {
-            self.values.truncate(len);
-            return Err(refused);
-        }
-        Ok(())
-    }
-
-    /// Appends a value.
+    /// Appends a value. It begins no mask.
     fn push_value<A>(&mut self, value: A) -> PolarsResult<()>
     where
         V: SolidValues<A>,
         requires { V.TryPush.can_take value }
-        ensures { Pushes (V.TryPush.stands_for value) (V.TryPush.begins value) (built_under V.blank (V.seen self.old.values) self.old.validity) (built_under V.blank (V.seen self.new.values) self.new.validity) result }
+        ensures pushed { Pushes (V.TryPush.stands_for value) (V.TryPush.begins value)
+            (state self.old) (state self.new) result }
+        ensures unmasked { mask_of self.old ≡ None → mask_of self.new ≡ None }
     {
         let alloc = self.values.allocator();
         let len = self.values.len();
-        if let Err(error) = self.values.try_push(value) {
-            return Err(error);
-        }
+        self.values.try_push(value)?;
         if let Err(refused) = push_bit(alloc, &mut self.validity, len, true) {
             self.values.truncate(len);
             return Err(refused.into());
@@ -140,38 +106,12 @@ impl<V: ValuesBuilder> MaskedBuilder<V> {
         Ok(())
     }
 
-    /// Keeps the first `len` slots. Takes no memory.
-    pub fn truncate(&mut self, len: usize)
-        requires { len ≤ length (built_under V.blank (V.seen self.old.values) self.old.validity).slots }
-        ensures slots { (built_under V.blank (V.seen self.new.values) self.new.validity).slots ≡ take len (built_under V.blank (V.seen self.old.values) self.old.validity).slots }
-        ensures kind { (built_under V.blank (V.seen self.new.values) self.new.validity).dtype ≡ (built_under V.blank (V.seen self.old.values) self.old.validity).dtype }
-    {
-        let _ = &self.validity;
-        self.values.truncate(len);
-        truncate_mask(&mut self.validity, len);
-    }
-
-    /// Makes room for `additional` slots more, where these are byte strings or texts of a byte each.
-    pub fn reserve(&mut self, additional: usize) -> Mem<()>
-        ensures { built_under V.blank (V.seen self.new.values) self.new.validity ≡ built_under V.blank (V.seen self.old.values) self.old.validity }
-    {
-        self.values.reserve(additional)?;
-        reserve_mask(&mut self.validity, additional)
-    }
-
-    /// Gives room back that no slot needs.
-    pub fn shrink_to_fit(&mut self) -> Mem<()>
-        ensures { built_under V.blank (V.seen self.new.values) self.new.validity ≡ built_under V.blank (V.seen self.old.values) self.old.validity }
-    {
-        shrink_mask(&mut self.validity);
-        self.values.shrink_to_fit()
-    }
-
-    /// The array of the slots. The builder is left empty, where memory is short too.
+    /// The array of the slots, with a mask exactly where a slot is null. The builder is left empty and without a mask, where memory
+    /// is short too.
     pub fn finish(&mut self) -> Mem<V::Array>
-        ensures value { IfOk result (λ a. V.finished a ≡ record { dtype = (built_under V.blank (V.seen self.old.values) self.old.validity).dtype; slots = (built_under V.blank (V.seen self.old.values) self.old.validity).slots }) }
-        ensures empty { (built_under V.blank (V.seen self.new.values) self.new.validity).slots ≡ [] }
-        ensures kind { (built_under V.blank (V.seen self.new.values) self.new.validity).dtype ≡ (built_under V.blank (V.seen self.old.values) self.old.validity).dtype }
+        ensures value { IfOk result (λ a. V.finished a ≡ finished_of (state self.old)) }
+        ensures emptied { IsCutTo 0 (state self.old) (state self.new) }
+        ensures unmasked { mask_of self.new ≡ None }
     {
         match freeze_mask(&mut self.validity) {
             Ok(validity) => self.values.finish_under(validity),
@@ -183,8 +123,78 @@ impl<V: ValuesBuilder> MaskedBuilder<V> {
     }
 }
 
+impl<V: ValuesBuilder> NullableBuilder for MaskedBuilder<V> {
+    ghost use Rattle.std.specs.Prelude.{◌≡◌, map, None, IfSome, IfNone};
+    ghost use Rattle.std.specs.Option.{option_copied};
+    ghost use Rattle.arrow_flat.specs.Slots.{is_valid as is_valid_slot};
+    ghost use Rattle.arrow_push.specs.Nulls.{AreValid};
+    ghost use Rattle.arrow_push.specs.State.{state, mask_of};
+
+    fn dtype(&self) -> &ArrowDataType {
+        self.values.dtype()
+    }
+
+    fn len(&self) -> usize {
+        self.values.len()
+    }
+
+    /// The mask, where there is one: a set bit for each slot that isn't null. Without a mask no slot is null.
+    fn validity(&self) -> Option<&MutableBitmap>
+        ensures bits { IfSome (option_copied result)
+            (λ bits. bits ≡ map is_valid_slot (state self.now).slots) }
+        ensures none { IfNone (option_copied result) (AreValid (state self.now).slots) }
+        ensures mask { option_copied result ≡ mask_of self.now }
+    {
+        self.validity.as_ref()
+    }
+
+    fn is_valid(&self, i: usize) -> bool {
+        match &self.validity {
+            None => true,
+            Some(bits) => bits.get(i),
+        }
+    }
+
+    fn push_null(&mut self) -> PolarsResult<()> {
+        let alloc = self.values.allocator();
+        let len = self.values.len();
+        self.values.push_blank()?;
+        if let Err(refused) = push_bit(alloc, &mut self.validity, len, false) {
+            self.values.truncate(len);
+            return Err(refused.into());
+        }
+        Ok(())
+    }
+
+    fn truncate(&mut self, len: usize) {
+        self.values.truncate(len);
+        truncate_mask(&mut self.validity, len);
+    }
+
+    fn reserve(&mut self, additional: usize) -> Mem<()> {
+        self.values.reserve(additional)?;
+        reserve_mask(&mut self.validity, additional)
+    }
+
+    fn shrink_to_fit(&mut self) -> Mem<()> {
+        shrink_mask(&mut self.validity);
+        self.values.shrink_to_fit()
+    }
+}
+
+impl<V: ValuesBuilder + TryClone> TryClone for MaskedBuilder<V> {
+    fn try_clone(&self, alloc: Global) -> Mem<MaskedBuilder<V>> {
+        let validity = self.validity.try_clone(alloc)?;
+        let values = self.values.try_clone(alloc)?;
+        Ok(MaskedBuilder { values, validity })
+    }
+}
+
 impl<A, V: ValuesBuilder + SolidValues<A>> TryPush<Option<A>> for MaskedBuilder<V> {
+    ghost use Rattle.std.specs.Prelude.{◌≡◌, ◌≤◌, length, None, IsSome, IsTrue};
+    ghost use Rattle.arrow_flat.specs.Built.{Pushes};
     ghost use Rattle.arrow_push.specs.Items.{CanTakeSome, OrNull};
+    ghost use Rattle.arrow_push.specs.State.{state, mask_of};
 
     ghost can_take = { CanTakeSome V.TryPush.can_take };
 
@@ -192,13 +202,18 @@ impl<A, V: ValuesBuilder + SolidValues<A>> TryPush<Option<A>> for MaskedBuilder<
 
     ghost begins = { OrNull V.TryPush.begins };
 
-    fn try_push(&mut self, item: Option<A>) -> PolarsResult<()> {
+    /// Appends a value, or a null where there is none. The first null begins the mask.
+    fn try_push(&mut self, item: Option<A>) -> PolarsResult<()>
+        requires { CanTakeSome V.TryPush.can_take item }
+        ensures grows { length (state self.old).slots ≤ length (state self.new).slots }
+        ensures pushed { IsTrue (state self.old).whole
+            → Pushes (OrNull V.TryPush.stands_for item) (OrNull V.TryPush.begins item)
+            (state self.old) (state self.new) result }
+        ensures unmasked { IsSome item → mask_of self.old ≡ None → mask_of self.new ≡ None }
+    {
         match item {
             Some(value) => self.push_value(value),
-            None => {
-                self.push_null()?;
-                Ok(())
-            }
+            None => self.push_null(),
         }
     }
 }
@@ -219,18 +234,16 @@ impl<A, V: ValuesBuilder + SolidValues<A>> TryExtend<Option<A>> for MaskedBuilde
 
 impl<V: ValuesBuilder> TryExtendFromSelf for MaskedBuilder<V> {
     ghost use Rattle.std.specs.Prelude.{⊤};
-    ghost use Rattle.arrow_push.specs.Masks.{built_under};
+    ghost use Rattle.arrow_push.specs.State.{state};
 
-    ghost from_refusal = { λ a b. (built_under V.blank (V.seen a.values) a.validity).refusal (built_under V.blank (V.seen b.values) b.validity).slots };
+    ghost from_refusal = { λ a b. (state a).refusal (state b).slots };
 
     ghost Bare = { λ b. ⊤ };
 
     fn try_extend_from_self(&mut self, other: &MaskedBuilder<V>) -> PolarsResult<()> {
         let alloc = self.values.allocator();
         let len = self.values.len();
-        if let Err(error) = self.values.extend_values(&other.values) {
-            return Err(error);
-        }
+        self.values.extend_values(&other.values)?;
         let count = other.values.len();
         if let Err(refused) = extend_mask(alloc, &mut self.validity, len, &other.validity, count) {
             self.values.truncate(len);

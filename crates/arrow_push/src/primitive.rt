@@ -1,24 +1,21 @@
 //! The builder of values of one width.
 ghost use Rattle.std.specs.Prelude.{◌≡◌, Some};
-ghost use Rattle.std.specs.Coded.{codes};
-ghost use Rattle.std.proofs.Props.{props};
 ghost use Rattle.arrow_types.specs.Seen.{seen as type_of};
 ghost use Rattle.arrow_types.specs.Types.{physical_of, primitive_type};
 ghost use Rattle.arrow_types.specs.declared.datatype.PhysicalType.TheVariants as physical;
-ghost use Rattle.arrow_types.specs.contracts.datatype.PhysicalType as physical_type;
 ghost use Rattle.arrow_flat.specs.Natives.{IsNative};
 
 use crate::{FreshValues, MaskedBuilder, SolidValues, TryPush, ValuesBuilder, ValuesLaws};
 use arrow_buffers::{Bitmap, Buffer};
-use arrow_flat::{Building, NativeType, PrimitiveArray};
+use arrow_flat::{Building, NativeType, PrimitiveArray, TryClone};
 use arrow_types::{ArrowDataType, Mem, PolarsResult, PrimitiveType};
 use std::alloc::Global;
+use std::marker::Model;
 
-/// A builder of values of one width, without nulls.
+/// A builder of values of one width, without nulls, seen as its type and its values.
 pub struct PrimitiveValues<T: NativeType> {
     dtype: ArrowDataType,
     values: Vec<T>,
-    ghost stored: { physical_of (type_of dtype) ≡ Some (physical.Primitive T.PRIMITIVE) } by { Prim.hlevel (props, codes, physical_type.the_row.coded) },
 }
 
 /// By hand, so that each place where a value may end has one call to prove, and not the drop of every field.
@@ -31,29 +28,50 @@ impl<T: NativeType> Drop for PrimitiveValues<T> {
     }
 }
 
+impl<T: NativeType> Model for PrimitiveValues<T> {
+    ghost use Rattle.std.specs.Prelude.{◌≡◌, Some};
+    ghost use Rattle.std.specs.Coded.{codes};
+    ghost use Rattle.arrow_types.specs.Seen.{seen as type_of};
+    ghost use Rattle.arrow_types.specs.Types.{physical_of};
+    ghost use Rattle.arrow_types.specs.declared.datatype.PhysicalType.TheVariants as physical;
+    ghost use Rattle.arrow_types.specs.contracts.datatype.ArrowDataType as data_type;
+    ghost use Rattle.arrow_push.specs.Flat.{TypedValues};
+
+    ghost Value = { TypedValues T };
+
+    ghost coded = { Prim.hlevel (codes, data_type.the_row.coded) };
+
+    ghost view = { λ b. record { dtype = b.dtype; values = b.values.items } };
+
+    ghost invariant = { λ b. physical_of (type_of b.dtype) ≡ Some (physical.Primitive T.PRIMITIVE) };
+}
+
 /// A builder of values of one width and nulls.
 pub type MutablePrimitiveArray<T> = MaskedBuilder<PrimitiveValues<T>>;
 
 impl<T: NativeType> Building for PrimitiveValues<T> {
-    ghost use Rattle.std.specs.Prelude.{refl};
-    ghost use Rattle.arrow_types.specs.Seen.{seen as type_of};
     ghost use Rattle.arrow_push.specs.Flat.{built_of, number};
+    ghost use Rattle.arrow_push.specs.Laws.{flat_starts};
 
-    ghost seen = { λ b. built_of (number T.parts) (type_of b.dtype) b.values.items };
+    ghost seen = { built_of (number T.parts) };
 
-    ghost starts = { λ b. record { none_refused = refl; none_lands = refl } };
+    ghost starts = { flat_starts (number T.parts) };
 }
 
 impl<T: NativeType> ValuesLaws for PrimitiveValues<T> {
     ghost use Rattle.std.specs.Prelude.{refl};
     ghost use Rattle.arrow_flat.specs.Numbers.{zeros};
     ghost use Rattle.arrow_flat.specs.Slots.{num};
+    ghost use Rattle.arrow_push.specs.Flat.{number};
+    ghost use Rattle.arrow_push.specs.Laws.{flat_valid};
 
     ghost blank = { λ t. num (zeros T.PRIMITIVE) };
 
     ghost whole = { λ b. refl };
 
     ghost plain = { λ b ys. refl };
+
+    ghost valid = { λ b. flat_valid (number T.parts) (λ x. refl) b.values };
 }
 
 impl<T: NativeType> ValuesBuilder for PrimitiveValues<T> {
@@ -61,11 +79,15 @@ impl<T: NativeType> ValuesBuilder for PrimitiveValues<T> {
     ghost use Rattle.arrow_types.specs.Seen.{seen as type_of};
     ghost use Rattle.arrow_flat.specs.Primitives.{slots};
     ghost use Rattle.arrow_push.specs.Flat.{number};
-    ghost use Rattle.arrow_push.specs.Items.{slot_or_null};
+    ghost use Rattle.arrow_flat.specs.Slots.{slot_or_null};
 
     type Array = PrimitiveArray<T>;
 
-    ghost finished = { λ a. record { dtype = type_of a.dtype; slots = map (slot_or_null (number T.parts)) (slots a) } };
+    ghost finished = { λ a. record {
+      dtype = type_of a.dtype;
+      slots = map (slot_or_null (number T.parts)) (slots a);
+      validity = a.mask;
+    } };
 
     fn dtype(&self) -> &ArrowDataType {
         &self.dtype
@@ -108,6 +130,15 @@ impl<T: NativeType> ValuesBuilder for PrimitiveValues<T> {
         let dtype = self.dtype.try_clone(alloc)?;
         let values = Buffer::from_vec(alloc, values)?;
         Ok(PrimitiveArray::new(dtype, values, validity))
+    }
+}
+
+impl<T: NativeType> TryClone for PrimitiveValues<T> {
+    fn try_clone(&self, alloc: Global) -> Mem<PrimitiveValues<T>> {
+        let mut values = Vec::new(alloc);
+        values.extend_from_slice(self.values.as_slice())?;
+        let dtype = self.dtype.try_clone(alloc)?;
+        Ok(PrimitiveValues { dtype, values })
     }
 }
 

@@ -1,11 +1,12 @@
 //! Builders of values without nulls, over which a mask may stand.
-ghost use Rattle.std.specs.Prelude.{◌≡◌, ◌≤◌, [], ◌∷◌, true, List, length, take, MatchResult, IfOk, IsTrue};
+ghost use Rattle.std.specs.Prelude.{◌≡◌, ◌≤◌, [], ◌∷◌, true, List, length, MatchResult, IfOk, IsTrue};
 ghost use Rattle.arrow_types.specs.TypeData.{TypeData};
-ghost use Rattle.arrow_types.specs.Seen.{seen};
+ghost use Rattle.arrow_types.specs.Seen.{seen as type_of};
 ghost use Rattle.arrow_flat.specs.Slots.{Slot, is_valid};
-ghost use Rattle.arrow_flat.specs.Built.{Takes, Keeps, ExtendsFrom};
+ghost use Rattle.arrow_flat.specs.Built.{Takes, IsUnchanged, IsCutTo, ExtendsFrom};
 ghost use Rattle.arrow_flat.specs.Primitives.{MaskHasLength};
-ghost use Rattle.arrow_push.specs.Masks.{with_nulls, bits_of_mask, Finished};
+ghost use Rattle.arrow_push.specs.Masks.{finished_under, Finished};
+ghost use Rattle.arrow_push.specs.Nulls.{AreValid};
 
 use crate::TryPush;
 use arrow_buffers::Bitmap;
@@ -13,16 +14,18 @@ use arrow_flat::Building;
 use arrow_types::{ArrowDataType, Mem, PolarsResult};
 use std::alloc::Global;
 
-/// What all builders of values keep: values stand as they were pushed, and some value stands for a null's place.
+/// What all builders of values keep: values stand as they were pushed, none is null, and some value stands in a null's place.
 pub trait ValuesLaws: Building {
     ghost blank: { TypeData → Slot };
 
     ghost whole: { (b : Self) → IsTrue (Self.seen b).whole };
 
     ghost plain: { (b : Self) (ys : List Slot) → (Self.seen b).landing ys ≡ ys };
+
+    ghost valid: { (b : Self) → AreValid (Self.seen b).slots };
 }
 
-/// No value stands for a null.
+/// A pushed value is never null.
 pub trait SolidValues<A>: TryPush<A> {
     ghost solid: { (x : A) (y : Slot) → Self.TryPush.stands_for x y → is_valid y ≡ true };
 
@@ -38,7 +41,7 @@ pub trait ValuesBuilder: ValuesLaws {
 
     /// The type of the array.
     fn dtype(&self) -> &ArrowDataType
-        ensures { seen result.now ≡ (Self.seen self.now).dtype };
+        ensures { type_of result.now ≡ (Self.seen self.now).dtype };
 
     /// The count of values.
     fn len(&self) -> usize
@@ -47,22 +50,22 @@ pub trait ValuesBuilder: ValuesLaws {
     /// The memory that the builder grows in.
     fn allocator(&self) -> Global;
 
-    /// Appends the value that stands in a null's place.
+    /// Appends the value that stands in a null's place. A refused call changes nothing.
     fn push_blank(&mut self) -> Mem<()>
         ensures { MatchResult result
             (λ _. Takes (Self.seen self.old) (Self.seen self.new) (Self.blank (Self.seen self.old).dtype ∷ []))
-            (λ _. Keeps (Self.seen self.old) (Self.seen self.new)) };
+            (λ _. IsUnchanged (Self.seen self.old) (Self.seen self.new)) };
 
     /// Appends the values of a builder of the same type, or none of them.
     fn extend_values(&mut self, other: &Self) -> PolarsResult<()>
         requires { (Self.seen other.now).dtype ≡ (Self.seen self.old).dtype }
-        ensures { ExtendsFrom ((Self.seen self.old).refusal (Self.seen other.now).slots) (Unit {0}) (Self.seen self.old) (Self.seen self.new) (Self.seen other.now).slots result };
+        ensures { ExtendsFrom ((Self.seen self.old).refusal (Self.seen other.now).slots) (Unit {0})
+            (Self.seen self.old) (Self.seen self.new) (Self.seen other.now).slots result };
 
     /// Keeps the first `len` values. Takes no memory.
     fn truncate(&mut self, len: usize)
         requires { len ≤ length (Self.seen self.old).slots }
-        ensures slots { (Self.seen self.new).slots ≡ take len (Self.seen self.old).slots }
-        ensures kind { (Self.seen self.new).dtype ≡ (Self.seen self.old).dtype };
+        ensures { IsCutTo len (Self.seen self.old) (Self.seen self.new) };
 
     /// Makes room for `additional` values more, where these are byte strings or texts of a byte each.
     fn reserve(&mut self, additional: usize) -> Mem<()>
@@ -72,12 +75,11 @@ pub trait ValuesBuilder: ValuesLaws {
     fn shrink_to_fit(&mut self) -> Mem<()>
         ensures { Self.seen self.new ≡ Self.seen self.old };
 
-    /// The array of the values under a mask. The builder is left empty.
+    /// The array of the values under a mask. The builder is left empty, where memory is short too.
     fn finish_under(&mut self, validity: Option<Bitmap>) -> Mem<Self::Array>
         requires { MaskHasLength validity (length (Self.seen self.old).slots) }
-        ensures value { IfOk result (λ a. finished a ≡ record { dtype = (Self.seen self.old).dtype; slots = with_nulls (bits_of_mask validity) (Self.seen self.old).slots }) }
-        ensures empty { (Self.seen self.new).slots ≡ [] }
-        ensures kind { (Self.seen self.new).dtype ≡ (Self.seen self.old).dtype };
+        ensures value { IfOk result (λ a. finished a ≡ finished_under validity (Self.seen self.old)) }
+        ensures emptied { IsCutTo 0 (Self.seen self.old) (Self.seen self.new) };
 }
 
 /// A builder of values of one plain type, which is made from nothing.

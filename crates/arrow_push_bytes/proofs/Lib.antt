@@ -1,6 +1,7 @@
-pub mod BuiltBytes
+pub mod BuiltOffsets
+pub mod BuiltSized
+pub mod BuiltStrings
+pub mod BuiltViews
 pub mod PartsPushed
-pub mod SizedBytes
 pub mod Strings
-pub mod ViewsBuilt
 pub mod ViewsPacked

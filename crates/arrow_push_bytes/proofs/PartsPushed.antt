@@ -1,20 +1,20 @@
 -- Values of given lengths that were pushed one by one.
-use Rattle.std.proofs.Common.{◌≡◌, ℕ, ◌+◌, ◌≤◌, Bool, true, false, cond, List, [], ◌∷◌, ◌++◌, map, length, take, drop, fold, sum, ap, sym, ◌∙◌, subst, arith, inl, inr, append_assoc, append-nil, length-drop, Option, Some, None}
+use Rattle.std.proofs.Common.{◌≡◌, ℕ, ◌+◌, ◌-◌, ◌<◌, ◌≤◌, Bool, true, false, cond, List, [], ◌∷◌, ◌++◌, map, length, take, drop, fold, sum, refl, ap, sym, ◌∙◌, subst, arith, inl, inr, append_assoc, append-nil, length-drop, Option, Some, None}
 use Rattle.std.specs.Prelude.{◌⊎◌}
-use Rattle.std.proofs.lemmas.List.{map-append}
-use Rattle.arrow_types.specs.TypeData.{TypeData}
+use Rattle.std.proofs.lemmas.List.{map-append, length-take-le}
 use Rattle.arrow_types.specs.declared.error.PolarsError.{PolarsError}
 use Rattle.arrow_types.specs.declared.error.PolarsError.TheVariants.{OutOfMemory, ComputeError}
 use Rattle.arrow_types.specs.declared.error.Reason.TheVariants.{LengthOverflow}
 use Rattle.arrow_flat.specs.Slots.{Slot, bytes}
-use Rattle.arrow_flat.specs.Built.{Built, Takes, Keeps}
+use Rattle.arrow_flat.specs.Built.{Built, Takes}
 use Rattle.arrow_views.specs.ViewArrays.{AreTextsIf}
-use Rattle.arrow_push.specs.Masks.{all_filled}
-use Rattle.arrow_push.proofs.Masks.{cut_back}
+use Rattle.arrow_push.specs.Masks.{all_filled, built_under}
 use Rattle.arrow_push.proofs.Takes.{takes_more}
 use Rattle.arrow_push_bytes.specs.Strings.{total_of}
 use Rattle.arrow_push_bytes.specs.Parts.{parts}
-use Rattle.arrow_push_bytes.specs.ViewsBuilt.{has_room, views_refusal, built_nullable}
+use Rattle.arrow_push_bytes.specs.BuiltStrings.{TypedStrings}
+use Rattle.arrow_push_bytes.specs.BuiltViews.{most_bytes, has_room, views_refusal, built_views}
+use Rattle.arrow_push_bytes.proofs.BuiltViews.{some_refused}
 
 -- ---- sums of lengths
 
@@ -72,29 +72,46 @@ refused_more n v ys e h = by (has_room n (length v)) h
     by true h = cc
     by false h = h
 
-module _ (t u : TypeData) (xs ws : List (List ℕ)) (m n : Option (List Bool)) where
-  pub one_more : (t' : TypeData) (xs' : List (List ℕ)) (m' : Option (List Bool)) (us : List (List ℕ)) (v : List ℕ) (y : Slot) → y ≡ bytes v
-      → Takes (built_nullable t' xs' m') (built_nullable t xs m) (map bytes us) → Takes (built_nullable t xs m) (built_nullable u ws n) (y ∷ [])
-      → Takes (built_nullable t' xs' m') (built_nullable u ws n) (map bytes (us ++ v ∷ []))
-  one_more t' xs' m' us v y e h k =
-      subst (Takes (built_nullable t' xs' m') (built_nullable u ws n)) (sym (map-append bytes us (v ∷ [])))
-      (takes_more (built_nullable t' xs' m') (built_nullable t xs m) (built_nullable u ws n) (map bytes us) (bytes v ∷ []) h (subst (λ y. Takes (built_nullable t xs m) (built_nullable u ws n) (y ∷ [])) e k))
+-- a builder of views under a mask
+abbrev pub nullable : TypedStrings → Option (List Bool) → Built
+nullable p m = built_under (λ t. bytes []) (built_views p) m
 
-  pub part_refused : (us : List (List ℕ)) (v : List ℕ) (vs all : List (List ℕ)) (e : PolarsError)
-      → Takes (built_nullable t xs m) (built_nullable u ws n) (map bytes us) → all ≡ us ++ v ∷ vs
-      → ((e ≡ OutOfMemory) ⊎ ((y : Slot) × (y ≡ bytes v) × ((built_nullable u ws n).refusal (y ∷ []) ≡ Some e)))
-      → (e ≡ OutOfMemory) ⊎ ((built_nullable t xs m).refusal (map bytes all) ≡ Some e)
-  part_refused us v vs all e h q (inl r) = inl r
-  part_refused us v vs all e h q (inr p) =
-      let r : views_refusal (total_of ws) (bytes v ∷ []) ≡ Some e = subst (λ y. (built_nullable u ws n).refusal (y ∷ []) ≡ Some e) p.1 p.2 in
-      inr (
-      ap (λ zs. (built_nullable t xs m).refusal (map bytes zs)) q ∙ ap (λ ys. (built_nullable t xs m).refusal ys) (map-append bytes us (v ∷ vs))
-      ∙ sym (h.later_refusal (map bytes (v ∷ vs))) ∙ refused_more (total_of ws) v (all_filled (bytes []) (map bytes vs)) e r
-      )
+pub one_more : (old now new : Built) (us : List (List ℕ)) (v : List ℕ) (y : Slot) → y ≡ bytes v
+    → Takes old now (map bytes us) → Takes now new (y ∷ []) → Takes old new (map bytes (us ++ v ∷ []))
+one_more old now new us v y e h k =
+    subst (Takes old new) (sym (map-append bytes us (v ∷ [])))
+    (takes_more old now new (map bytes us) (bytes v ∷ []) h (subst (λ y. Takes now new (y ∷ [])) e k))
 
--- the slots before are still there
-pub front_stays : (old new : Built) (ys : List Slot) → Takes old new ys → take (length old.slots) new.slots ≡ old.slots
-front_stays old new ys h = cut_back old.slots new.slots (old.landing ys) h.held.slots_are
+pub part_refused : (old : Built) (p : TypedStrings) (m : Option (List Bool)) (us : List (List ℕ)) (v : List ℕ) (vs all : List (List ℕ)) (e : PolarsError)
+    → Takes old (nullable p m) (map bytes us) → all ≡ us ++ v ∷ vs
+    → ((e ≡ OutOfMemory) ⊎ ((y : Slot) × (y ≡ bytes v) × ((nullable p m).refusal (y ∷ []) ≡ Some e)))
+    → (e ≡ OutOfMemory) ⊎ (old.refusal (map bytes all) ≡ Some e)
+part_refused old p m us v vs all e h q (inl r) = inl r
+part_refused old p m us v vs all e h q (inr w) =
+    let r : views_refusal (total_of p.strings) (bytes v ∷ []) ≡ Some e = subst (λ y. (nullable p m).refusal (y ∷ []) ≡ Some e) w.1 w.2 in
+    inr (
+    ap (λ zs. old.refusal (map bytes zs)) q ∙ ap (λ ys. old.refusal ys) (map-append bytes us (v ∷ vs))
+    ∙ sym (h.later_refusal (map bytes (v ∷ vs))) ∙ refused_more (total_of p.strings) v (all_filled (bytes []) (map bytes vs)) e r
+    )
 
-pub front_kept : (old now new : Built) (ys : List Slot) → Takes old now ys → Keeps now new → take (length old.slots) new.slots ≡ old.slots
-front_kept old now new ys h k = ap (λ zs. take (length old.slots) zs) k.same_slots ∙ front_stays old now ys h
+-- ---- all at once
+
+all_filled_strings : (xs : List (List ℕ)) → all_filled (bytes []) (map bytes xs) ≡ map bytes xs
+all_filled_strings [] = refl
+all_filled_strings (x ∷ xs) = ap (λ ys. bytes x ∷ ys) (all_filled_strings xs)
+
+parts_total : (ns bs : List ℕ) → summed ns ≡ length bs → total_of (parts ns bs) ≡ length bs
+parts_total [] bs h = h
+parts_total (n ∷ ns) bs h =
+    let l : length (take n bs) ≡ n = length-take-le n bs (omega arith) in
+    let d : length (drop n bs) ≡ length bs - n = length-drop n bs in
+    let q : total_of (parts ns (drop n bs)) ≡ length (drop n bs) = parts_total ns (drop n bs) (omega arith) in
+    omega arith
+
+-- values that are too many together are refused
+pub parts_refused : (p : TypedStrings) (m : Option (List Bool)) (ns bs : List ℕ) → sum ns ≡ length bs → total_of p.strings ≤ most_bytes
+    → most_bytes < total_of p.strings + length bs → (nullable p m).refusal (map bytes (parts ns bs)) ≡ Some (ComputeError LengthOverflow)
+parts_refused p m ns bs e few many =
+    let t : total_of (parts ns bs) ≡ length bs = parts_total ns bs (sym (sum_is ns) ∙ e) in
+    ap (views_refusal (total_of p.strings)) (all_filled_strings (parts ns bs))
+    ∙ some_refused (total_of p.strings) (parts ns bs) few (omega arith)

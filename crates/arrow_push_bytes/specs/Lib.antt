@@ -1,6 +1,7 @@
-pub mod BuiltBytes
+pub mod BuiltOffsets
+pub mod BuiltSized
+pub mod BuiltStrings
+pub mod BuiltViews
+pub mod Laws
 pub mod Parts
-pub mod SizedBytes
 pub mod Strings
-pub mod TextParts
-pub mod ViewsBuilt

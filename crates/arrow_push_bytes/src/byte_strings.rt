@@ -1,17 +1,16 @@
-//! Byte strings that grow, one behind another.
-ghost use Rattle.std.specs.Prelude.{◌≡◌, ℕ, ◌⊎◌, ◌+◌, ◌-◌, ◌<◌, ◌≤◌, length as count, [], ◌∷◌, ◌++◌, map, take, drop, slice_get, Some, IfOk, MatchResult};
+//! Values of bytes that grow, one after another.
+ghost use Rattle.std.specs.Prelude.{◌≡◌, ◌↔◌, ℕ, ◌+◌, ◌-◌, ◌<◌, ◌≤◌, length as count, [], ◌∷◌, ◌++◌, map, take, drop, slice_get, Some, IfOk, IsTrue, MatchResult};
 ghost use Rattle.arrow_buffers.specs.Offsets.{AreOffsets, to_nat, end_of, IsGrowthRefusal};
-ghost use Rattle.arrow_types.specs.declared.error.PolarsError.TheVariants.{ComputeError, OutOfMemory};
-ghost use Rattle.arrow_types.specs.declared.error.Reason.TheVariants.{LengthOverflow};
 ghost use Rattle.arrow_flat.specs.Pieces.{pieces};
-ghost use Rattle.arrow_push_bytes.specs.Strings.{AreStrings, total_of};
+ghost use Rattle.arrow_push_bytes.specs.Strings.{total_of, IsOverflow};
 
 use arrow_buffers::{Buffer, Offset, OffsetError, Offsets, OffsetsBuffer};
+use arrow_flat::{Access, ByteString, TryClone};
 use arrow_types::{Mem, PolarsError, PolarsResult, Reason};
 use std::alloc::Global;
 use std::marker::Model;
 
-/// Byte strings that grow at their end, seen as their list: offsets, and the bytes of all strings one behind another.
+/// Values of bytes that grow at their end, seen as their list: offsets, and the bytes of all values one after another.
 pub struct ByteStrings<O: Offset> {
     offsets: Offsets<O>,
     bytes: Vec<u8>,
@@ -85,7 +84,8 @@ impl<O: Offset> ByteStrings<O> {
     pub fn try_push(&mut self, value: &[u8]) -> PolarsResult<()>
         ensures { MatchResult result
             (λ _. (self.new ≡ self.old ++ value.now ∷ []) × (total_of self.old + count value.now < O.limit))
-            (λ e. (self.new ≡ self.old) × ((e ≡ OutOfMemory) ⊎ ((e ≡ ComputeError LengthOverflow) × (O.limit ≤ total_of self.old + count value.now)))) }
+            (λ e. (self.new ≡ self.old)
+            × IsOverflow O.limit (total_of self.old + count value.now) e) }
     {
         let before = self.offsets.len_proxy();
         if let Err(error) = self.offsets.try_push(value.len()) {
@@ -104,8 +104,14 @@ impl<O: Offset> ByteStrings<O> {
         ensures fits { total_of self.old < O.limit }
         ensures extended { MatchResult result
             (λ _. (self.new ≡ self.old ++ other.now) × (total_of self.old + total_of other.now < O.limit))
-            (λ e. (self.new ≡ self.old) × ((e ≡ OutOfMemory) ⊎ ((e ≡ ComputeError LengthOverflow) × (O.limit ≤ total_of self.old + total_of other.now)))) }
+            (λ e. (self.new ≡ self.old)
+            × IsOverflow O.limit (total_of self.old + total_of other.now) e) }
     {
+        let bytes = other.total();
+        if !has_offset::<O>(self.total() + bytes) {
+            return Err(PolarsError::ComputeError(Reason::LengthOverflow));
+        }
+        self.reserve_both(other.len(), bytes)?;
         let before = self.len();
         if let Err(error) = self.push_all(other) {
             self.truncate(before);
@@ -116,17 +122,14 @@ impl<O: Offset> ByteStrings<O> {
 
     /// Appends the strings of another one by one. A refused call keeps those before the refused one.
     fn push_all(&mut self, other: &ByteStrings<O>) -> PolarsResult<()>
-        ensures fits { total_of self.old < O.limit }
+        requires fits { total_of self.old < O.limit }
         ensures front { take (count self.old) self.new ≡ self.old }
         ensures pushed { MatchResult result
             (λ _. (self.new ≡ self.old ++ other.now) × (total_of self.old + total_of other.now < O.limit))
-            (λ e. (e ≡ OutOfMemory) ⊎ ((e ≡ ComputeError LengthOverflow) × (O.limit ≤ total_of self.old + total_of other.now))) }
+            (λ e. IsOverflow O.limit (total_of self.old + total_of other.now) e) }
     {
-        self.total();
         for i in 0..other.len() {
-            if let Err(error) = self.try_push(other.value(i)) {
-                return Err(error);
-            }
+            self.try_push(other.value(i))?;
         }
         Ok(())
     }
@@ -144,8 +147,15 @@ impl<O: Offset> ByteStrings<O> {
     pub fn reserve(&mut self, additional: usize) -> Mem<()>
         ensures { self.new ≡ self.old }
     {
-        self.offsets.reserve(additional)?;
-        self.bytes.reserve(additional)
+        self.reserve_both(additional, additional)
+    }
+
+    /// Makes room for `strings` strings more, of `bytes` bytes together.
+    fn reserve_both(&mut self, strings: usize, bytes: usize) -> Mem<()>
+        ensures { self.new ≡ self.old }
+    {
+        self.offsets.reserve(strings)?;
+        self.bytes.reserve(bytes)
     }
 
     /// Gives room back that no string needs.
@@ -188,9 +198,43 @@ impl<O: Offset> ByteStrings<O> {
     }
 }
 
-/// Why bytes are refused whose offsets were.
+/// Whether offsets reach `end`.
+fn has_offset<O: Offset>(end: usize) -> bool
+    ensures { IsTrue result ↔ (end < O.limit) }
+{
+    O::from_usize(end).is_some()
+}
+
+impl<O: Offset> TryClone for ByteStrings<O> {
+    fn try_clone(&self, alloc: Global) -> Mem<ByteStrings<O>> {
+        let mut bytes = Vec::new(alloc);
+        bytes.extend_from_slice(self.bytes.as_slice())?;
+        let offsets = self.offsets.try_clone(alloc)?;
+        Ok(ByteStrings { offsets, bytes })
+    }
+}
+
+impl<'a, O: Offset> Access<&'a [u8], ByteString> for &'a ByteStrings<O> {
+    ghost use Rattle.std.specs.Prelude.{length};
+
+    ghost seen = { λ x. x.now };
+
+    ghost size = { λ s. length s.now };
+
+    ghost items = { λ s. s.now };
+
+    fn count(&self) -> usize {
+        (*self).len()
+    }
+
+    fn item(&self, i: usize) -> &'a [u8] {
+        (*self).value(i)
+    }
+}
+
+/// The error of a push whose offset was refused.
 fn growth_refusal(error: OffsetError) -> PolarsError
-    ensures { (limit end : ℕ) → IsGrowthRefusal error limit end → (result ≡ OutOfMemory) ⊎ ((result ≡ ComputeError LengthOverflow) × (limit ≤ end)) }
+    ensures { (limit end : ℕ) → IsGrowthRefusal error limit end → IsOverflow limit end result }
 {
     match error {
         OffsetError::Overflow => PolarsError::ComputeError(Reason::LengthOverflow),

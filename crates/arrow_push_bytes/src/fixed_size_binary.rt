@@ -1,4 +1,4 @@
-//! The builder of byte strings of one size.
+//! The builder of binary values of one size.
 ghost use Rattle.std.specs.Prelude.{◌≡◌, ◌%◌, ◌/◌, ◌<◌, length as count, Some};
 ghost use Rattle.std.specs.Coded.{codes};
 ghost use Rattle.std.proofs.Props.{props};
@@ -16,7 +16,7 @@ use arrow_push::{
 use arrow_types::{ArrowDataType, Mem, PolarsError, PolarsResult, Reason};
 use std::alloc::{AllocError, Global};
 
-/// A builder of byte strings of one size, without nulls.
+/// A builder of binary values of one size, without nulls.
 pub struct FixedSizeBinaryValues {
     dtype: ArrowDataType,
     size: usize,
@@ -37,7 +37,7 @@ impl Drop for FixedSizeBinaryValues {
     }
 }
 
-/// A builder of byte strings of one size and nulls.
+/// A builder of binary values of one size and nulls.
 pub type MutableFixedSizeBinaryArray = MaskedBuilder<FixedSizeBinaryValues>;
 
 /// A builder that is made for values of a given size.
@@ -45,20 +45,23 @@ pub trait NewSized: Building {
     ghost use Rattle.std.specs.Prelude.{◌≡◌, ◌<◌, [], IfOk};
     ghost use Rattle.arrow_types.specs.TypeData.{fixed_size_binary};
 
-    /// No slots yet, for byte strings of `size` bytes each.
+    /// No slots yet, for values of `size` bytes each.
     fn new_sized(alloc: Global, size: usize) -> Mem<Self>
         requires { 0 < size }
-        ensures { IfOk result (λ b. ((Self.seen b).slots ≡ []) × ((Self.seen b).dtype ≡ fixed_size_binary size)) };
+        ensures slots { IfOk result (λ b. (Self.seen b).slots ≡ []) }
+        ensures kind { IfOk result (λ b. (Self.seen b).dtype ≡ fixed_size_binary size) };
 }
 
 impl Building for FixedSizeBinaryValues {
     ghost use Rattle.std.specs.Prelude.{refl};
     ghost use Rattle.arrow_types.specs.Seen.{seen as type_of};
-    ghost use Rattle.arrow_push_bytes.specs.SizedBytes.{built_sized};
+    ghost use Rattle.arrow_push_bytes.specs.BuiltSized.{built_sized, sized_strings, width_refusal};
+    ghost use Rattle.arrow_push_bytes.specs.Laws.{strings_start};
 
     ghost seen = { λ b. built_sized b.size (type_of b.dtype) b.values.items };
 
-    ghost starts = { λ b. record { none_refused = refl; none_lands = refl } };
+    ghost starts = { λ b. strings_start (λ xs ys. width_refusal b.size ys) (type_of b.dtype)
+        (sized_strings b.size b.values.items) refl };
 }
 
 impl NewSized for FixedSizeBinaryValues {
@@ -80,21 +83,24 @@ impl<V: ValuesBuilder + NewSized> NewSized for MaskedBuilder<V> {
 
 impl ValuesLaws for FixedSizeBinaryValues {
     ghost use Rattle.std.specs.Prelude.{refl};
-    ghost use Rattle.arrow_push_bytes.specs.SizedBytes.{zeros_of};
+    ghost use Rattle.arrow_push_bytes.specs.BuiltSized.{zeros_of, sized_strings};
+    ghost use Rattle.arrow_push_bytes.specs.Laws.{strings_valid};
 
     ghost blank = { zeros_of };
 
     ghost whole = { λ b. refl };
 
     ghost plain = { λ b ys. refl };
+
+    ghost valid = { λ b. strings_valid (sized_strings b.size b.values.items) };
 }
 
 impl ValuesBuilder for FixedSizeBinaryValues {
-    ghost use Rattle.arrow_push_bytes.specs.SizedBytes.{shown_sized};
+    ghost use Rattle.arrow_push_bytes.specs.BuiltSized.{finished_sized};
 
     type Array = FixedSizeBinaryArray;
 
-    ghost finished = { shown_sized };
+    ghost finished = { finished_sized };
 
     fn dtype(&self) -> &ArrowDataType {
         &self.dtype
@@ -112,16 +118,12 @@ impl ValuesBuilder for FixedSizeBinaryValues {
         let Some(total) = self.values.len().checked_add(self.size) else {
             return Err(AllocError);
         };
-        if let Err(refused) = self.values.resize(total, 0) {
-            return Err(refused);
-        }
+        self.values.resize(total, 0)?;
         Ok(())
     }
 
     fn extend_values(&mut self, other: &FixedSizeBinaryValues) -> PolarsResult<()> {
-        if let Err(refused) = self.values.extend_from_slice(other.values.as_slice()) {
-            return Err(refused.into());
-        }
+        self.values.extend_from_slice(other.values.as_slice())?;
         Ok(())
     }
 
@@ -164,9 +166,7 @@ impl<'a> TryPush<&'a [u8]> for FixedSizeBinaryValues {
         if item.len() != self.size {
             return Err(PolarsError::ComputeError(Reason::WrongWidth));
         }
-        if let Err(refused) = self.values.extend_from_slice(item) {
-            return Err(refused.into());
-        }
+        self.values.extend_from_slice(item)?;
         Ok(())
     }
 }
@@ -198,7 +198,7 @@ impl<'a> TryExtend<&'a [u8]> for FixedSizeBinaryValues {
 impl TryExtendFromSelf for FixedSizeBinaryValues {
     ghost use Rattle.std.specs.Prelude.{⊤, map};
     ghost use Rattle.arrow_flat.specs.Slots.{bytes};
-    ghost use Rattle.arrow_push_bytes.specs.SizedBytes.{sized_strings, width_refusal};
+    ghost use Rattle.arrow_push_bytes.specs.BuiltSized.{sized_strings, width_refusal};
 
     ghost from_refusal = { λ a b. width_refusal a.size (map bytes (sized_strings b.size b.values.items)) };
 

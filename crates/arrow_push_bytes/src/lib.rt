@@ -1,17 +1,20 @@
-//! Builders of byte strings and of texts, with offsets, of one size, and by views.
+//! Builders of binary values and of strings: by offsets, of one size, and by views.
 #![tactic(auto)]
 
 mod binary;
-mod binview;
 mod byte_strings;
 mod extend;
 mod fixed_size_binary;
+mod offset_values;
 mod packed;
 mod utf8;
+mod view;
 
-pub use binary::{MutableBinaryArray, MutableBinaryValuesArray};
-pub use binview::{MutableBinaryViewArray, ViewValues};
 pub use byte_strings::ByteStrings;
 pub use extend::ExtendFromLengths;
 pub use fixed_size_binary::{FixedSizeBinaryValues, MutableFixedSizeBinaryArray, NewSized};
-pub use utf8::{MutableUtf8Array, MutableUtf8ValuesArray};
+pub use offset_values::{
+    MutableBinaryArray, MutableBinaryValuesArray, MutableUtf8Array, MutableUtf8ValuesArray,
+    OffsetValues,
+};
+pub use view::{MutableBinaryViewArray, ViewValues};

@@ -8,7 +8,8 @@ use arrow_buffers::Offset;
 use arrow_bytes::{BinaryArray, FixedSizeBinaryArray, Utf8Array};
 use arrow_flat::{BooleanArray, PrimitiveArray};
 use arrow_push::{
-    MaskedBuilder, SolidValues, TryExtend, TryExtendFromSelf, TryPush, ValuesBuilder,
+    MaskedBuilder, NullableBuilder, SolidValues, TryExtend, TryExtendFromSelf, TryPush,
+    ValuesBuilder,
 };
 use arrow_types::{ArrowDataType, Mem, PolarsError, PolarsResult, Reason};
 use arrow_views::{BinaryViewArray, Utf8ViewArray};
@@ -85,7 +86,7 @@ fn make<A: Copy, V: ValuesBuilder + SolidValues<A>>(
         Call::Reserve(additional) => Ok(builder.reserve(additional)?),
         Call::Push(slot) => builder.try_push(slot),
         Call::PushRefused(slot, reason) => refused(builder.try_push(slot), reason),
-        Call::PushNull => Ok(builder.push_null()?),
+        Call::PushNull => builder.push_null(),
         Call::Fill(value) => fill(builder, value),
         Call::Extend(slots) => builder.try_extend(slots.iter().copied()),
         Call::Append(slots) => {
@@ -124,7 +125,7 @@ where
         make(builder, other, call)?;
     }
     let array = builder.finish()?;
-    let is_right = array.has(dtype, slots) && builder.len() == 0 && builder.validity().is_none();
+    let is_right = array.has(dtype, slots) && builder.is_empty() && builder.validity().is_none();
     drop(array);
     Ok(is_right)
 }

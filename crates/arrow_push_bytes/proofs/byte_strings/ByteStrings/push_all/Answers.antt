@@ -1,20 +1,21 @@
 use Rattle.std.proofs.Common.{◌≡◌, ◌+◌, ◌≤◌, [], ◌∷◌, ◌++◌, take, length, ap, sym, ◌∙◌, arith, inl, inr}
 use Rattle.std.specs.Prelude.{◌⊎◌}
 use Rattle.std.proofs.lemmas.List.{append_assoc}
-use Rattle.arrow_types.specs.declared.error.PolarsError.TheVariants.{ComputeError, OutOfMemory}
-use Rattle.arrow_types.specs.declared.error.Reason.TheVariants.{LengthOverflow}
+use Rattle.arrow_types.specs.declared.error.PolarsError.{PolarsError}
 use Rattle.arrow_flat.proofs.Masked.{take_at}
-use Rattle.arrow_push_bytes.specs.Strings.{total_of}
+use Rattle.arrow_push.proofs.Later.{passed_on}
+use Rattle.arrow_push_bytes.specs.Strings.{total_of, IsOverflow}
 use Rattle.arrow_push_bytes.proofs.Strings.{total_append, total_push, total_take}
 use Rattle.arrow_push_bytes.proofs.byte_strings.ByteStrings.push_all.Goals as goal
 
-pub returns-in-Err-clause-pushed : goal.returns-in-Err-clause-pushed
-returns-in-Err-clause-pushed g c = by c.in-Err.ensures.1
+pub returns-in_err-try_push-clause-pushed : goal.returns-in_err-try_push-clause-pushed
+returns-in_err-try_push-clause-pushed g c =
+    passed_on c.from_residual.result _ _ _ c.from_residual.ensures.1 (by _ c.in_err-try_push.ensures.1)
   where
-    by : (c.in-Err.error ≡ OutOfMemory) ⊎ ((c.in-Err.error ≡ ComputeError LengthOverflow) × (g.O.Offset.limit ≤ total_of c.loop-i.self + length c.value.result.now))
-        → (c.in-Err.error ≡ OutOfMemory) ⊎ ((c.in-Err.error ≡ ComputeError LengthOverflow) × (g.O.Offset.limit ≤ total_of c.args.self.now + total_of c.args.other.now))
-    by (inl m) = inl m
-    by (inr p) =
+    by : (e : PolarsError) → IsOverflow g.O.Offset.limit (total_of c.loop-i.self + length c.value.result.now) e
+        → IsOverflow g.O.Offset.limit (total_of c.args.self.now + total_of c.args.other.now) e
+    by e (inl m) = inl m
+    by e (inr p) =
         let i = c.loop-i.i in
         let other = c.args.other.now in
         let a = ap total_of c.loop-i.invariant.taken ∙ total_append c.args.self.now (take i other) in
@@ -29,11 +30,11 @@ loop-i-preserved g c =
     let other = c.args.other.now in
     let more = take_at other i c.value.result.now c.value.ensures in
     record {
-      taken = c.in_default.ensures.0 ∙ ap (λ xs. xs ++ c.value.result.now ∷ []) c.loop-i.invariant.taken
+      taken = c.in_ok-try_push.ensures.0 ∙ ap (λ xs. xs ++ c.value.result.now ∷ []) c.loop-i.invariant.taken
           ∙ append_assoc c.args.self.now (take i other) (c.value.result.now ∷ []) ∙ ap (λ xs. c.args.self.now ++ xs) (sym more);
       fits =
           let a = ap total_of c.loop-i.invariant.taken ∙ total_append c.args.self.now (take i other) in
           let b = ap total_of more ∙ total_push (take i other) c.value.result.now in
-          let l = c.in_default.ensures.1 in
+          let l = c.in_ok-try_push.ensures.1 in
           omega arith;
     }

@@ -2,8 +2,8 @@ use Rattle.std.proofs.Common.{◌≡◌, ◌%◌, ◌++◌, length, map, refl, a
 use Rattle.arrow_types.specs.Seen.{seen}
 use Rattle.arrow_flat.specs.Slots.{bytes}
 use Rattle.arrow_flat.specs.Built.{Takes}
-use Rattle.arrow_push_bytes.specs.SizedBytes.{built_sized, sized_strings}
-use Rattle.arrow_push_bytes.proofs.SizedBytes.{took_sized, grown_multiple, same_size}
+use Rattle.arrow_push_bytes.specs.BuiltSized.{built_sized, sized_strings}
+use Rattle.arrow_push_bytes.proofs.BuiltSized.{took_sized, grown_multiple, same_size}
 use Rattle.arrow_push_bytes.proofs.fixed_size_binary.FixedSizeBinaryValuesValuesBuilder.extend_values.Goals as goal
 
 pub invariant_of-self-clause-multiple : goal.invariant_of-self-clause-multiple
@@ -26,5 +26,5 @@ returns c =
     subst (λ k. Takes (built_sized now.size t now.values.items) (built_sized now.size t more) (map bytes (sized_strings k other.values.items))) (sym same)
     (took_sized now.size t t now.values.items other.values.items more now.positive now.multiple
     (subst (λ k. length other.values.items % k ≡ 0) same other.multiple) refl
-    (c.in_default.ensures.items ∙ ap (λ xs. now.values.items ++ xs) c.as_slice.ensures.value)) in
+    (c.in_ok-extend_from_slice.ensures.items ∙ ap (λ xs. now.values.items ++ xs) c.as_slice.ensures.value)) in
     (took.accepted, took.held, λ _. took)

@@ -3,8 +3,8 @@ use Rattle.arrow_types.specs.Seen.{seen}
 use Rattle.arrow_flat.specs.Primitives.{MaskHasLength}
 use Rattle.arrow_flat.specs.Slots.{bytes}
 use Rattle.arrow_push.proofs.Finished.{shown_parts}
-use Rattle.arrow_push_bytes.specs.SizedBytes.{sized_strings, shown_sized}
-use Rattle.arrow_push_bytes.proofs.SizedBytes.{slots_count, known_size}
+use Rattle.arrow_push_bytes.specs.BuiltSized.{sized_strings, finished_sized}
+use Rattle.arrow_push_bytes.proofs.BuiltSized.{slots_count, known_size}
 use Rattle.arrow_push_bytes.proofs.fixed_size_binary.FixedSizeBinaryValuesValuesBuilder.finish_under.Goals as goal
 
 pub new-requires-2-clause-positive : goal.new-requires-2-clause-positive
@@ -33,7 +33,7 @@ returns-clause-value c =
     let now = c.args.self.now in
     let values = c.in_ok-values.ensures ∙ ap (λ v. v.items) c.replace-values.ensures.value in
     let size = known_size (seen c.in_ok-dtype.dtype) (seen now.dtype) now.size (ap seen c.in_ok-dtype.ensures) now.sized in
-    ap shown_sized c.new-2.ensures
-    ∙ ap (λ n. shown_sized (record { dtype = c.in_ok-dtype.dtype; size = n; values = c.in_ok-values.values; mask = c.args.validity })) size
+    ap finished_sized c.new-2.ensures
+    ∙ ap (λ n. finished_sized (record { dtype = c.in_ok-dtype.dtype; size = n; values = c.in_ok-values.values; mask = c.args.validity })) size
     ∙ shown_parts bytes c.in_ok-dtype.dtype now.dtype c.args.validity (sized_strings now.size c.in_ok-values.values) (sized_strings now.size now.values.items)
     c.in_ok-dtype.ensures (ap (sized_strings now.size) values)

@@ -1,5 +1,5 @@
 use Rattle.std.proofs.Common.{◌≡◌, ◌/◌, length, ap, sym, ◌∙◌, arith}
-use Rattle.arrow_push_bytes.proofs.SizedBytes.{slots_count}
+use Rattle.arrow_push_bytes.proofs.BuiltSized.{slots_count}
 use Rattle.arrow_push_bytes.proofs.fixed_size_binary.FixedSizeBinaryValuesValuesBuilder.len.Goals as goal
 
 pub returns : goal.returns

@@ -2,8 +2,8 @@ use Rattle.std.proofs.Common.{◌≡◌, ◌+◌, ◌∷◌, [], length, replica
 use Rattle.std.proofs.lemmas.List.{length-replicate}
 use Rattle.arrow_types.specs.Seen.{seen}
 use Rattle.arrow_flat.specs.Built.{Takes}
-use Rattle.arrow_push_bytes.specs.SizedBytes.{built_sized}
-use Rattle.arrow_push_bytes.proofs.SizedBytes.{took_one_sized, zeros_behind, zeros_multiple, zeros_are}
+use Rattle.arrow_push_bytes.specs.BuiltSized.{built_sized}
+use Rattle.arrow_push_bytes.proofs.BuiltSized.{took_one_sized, zeros_behind, zeros_multiple, zeros_are}
 use Rattle.arrow_push_bytes.proofs.fixed_size_binary.FixedSizeBinaryValuesValuesBuilder.push_blank.Goals as goal
 
 pub invariant_of-self-clause-multiple : goal.invariant_of-self-clause-multiple
@@ -21,4 +21,4 @@ returns c =
     let t : c.in-Some.total ≡ vec_len now.values + now.size = (let e = c.in-Some.ensures in let l = c.len.ensures in omega arith) in
     subst (λ y. Takes (built_sized now.size s now.values.items) (built_sized now.size s c.resize.new.self.items) (y ∷ [])) (zeros_are s now.size now.sized)
     (took_one_sized now.size s s now.values.items (replicate now.size 0) c.resize.new.self.items now.positive now.multiple (length-replicate now.size 0) refl
-    (c.in_default-resize.ensures.items ∙ zeros_behind now.size c.in-Some.total (vec_len now.values) now.values.items n t))
+    (c.in_ok-resize.ensures.items ∙ zeros_behind now.size c.in-Some.total (vec_len now.values) now.values.items n t))

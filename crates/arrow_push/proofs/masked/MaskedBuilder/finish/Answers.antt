@@ -1,0 +1,14 @@
+use Rattle.std.proofs.Common.{◌≡◌, ap, ◌∙◌, subst}
+use Rattle.std.specs.Prelude.{IfOk}
+use Rattle.arrow_flat.specs.Built.{Built}
+use Rattle.arrow_push.specs.Masks.{Finished, finished_under}
+use Rattle.arrow_push.proofs.Finished.{finished_is}
+use Rattle.arrow_push.proofs.masked.MaskedBuilder.finish.Goals as goal
+
+pub returns-in-Ok-clause-value : goal.returns-in-Ok-clause-value
+returns-in-Ok-clause-value g c =
+    let b = c.args.self.now in
+    let v : Built = g.V.Building.seen b.values in
+    subst (λ (f : Finished). IfOk c.finish_under.result (λ a. g.V.ValuesBuilder.finished a ≡ f))
+    (ap (λ m. finished_under m v) c.in-Ok.ensures.value ∙ finished_is g.V.ValuesLaws.blank v b.validity b.fits (g.met.V.ValuesLaws.valid b.values))
+    c.finish_under.ensures.value
