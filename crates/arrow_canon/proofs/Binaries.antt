@@ -6,7 +6,7 @@ use Rattle.std.proofs.lemmas.List.{length-map}
 use Rattle.std.proofs.lemmas.Str.{IsUtf8-nil}
 use Rattle.arrow_buffers.specs.Bits.{Bits}
 use Rattle.arrow_buffers.specs.Offsets.{to_nat, end_of}
-use Rattle.arrow_bytes.specs.Binaries.{Binaries, slots, values_of}
+use Rattle.arrow_bytes.specs.Binaries.{Binaries, AreTextsIf, slot_count, slots, values_of}
 use Rattle.arrow_types.specs.Seen.{seen}
 use Rattle.arrow_types.specs.TypeData.{TypeData}
 use Rattle.arrow_flat.specs.Natives.{octets}
@@ -14,7 +14,7 @@ use Rattle.arrow_flat.specs.Pieces.{pieces_from, pieces, AreTexts}
 use Rattle.arrow_flat.specs.Primitives.{MaskHasLength, masked_values as option_masked}
 use Rattle.arrow_flat.specs.Slots.{Slot, bytes}
 use Rattle.arrow_flat.proofs.Masked.{slots_length}
-use Rattle.arrow_flat.proofs.Pieces.{pieces_count}
+use Rattle.arrow_bytes.proofs.Windows.{fits_values, values_count}
 use Rattle.arrow_layout.specs.Canon.{canon, bytes_or, offsets}
 use Rattle.arrow_layout.specs.Denote.{denote, masked}
 use Rattle.arrow_layout.specs.Forms.{binaries_of, form_of}
@@ -63,12 +63,9 @@ strings_canonical t large text m ps form fits =
     (joined_slots string (bytes_or []) (λ x. octets (unwrap_or x [])) string_bytes m ps fits ∙ octets_joined (λ x. unwrap_or x []) xs)
 
 module _ {O : Type 0} (number : O → ℤ) where
-  pieces_fit : (a : Binaries O) → MaskHasLength a.mask (pred (length (map number a.offsets))) → MaskHasLength a.mask (length (values_of number a))
-  pieces_fit a fits = subst (MaskHasLength a.mask) (sym (pieces_count (map number a.offsets) a.values)) fits
-
   -- an array of canonical parts is canonical
   pub canonical_binaries : (a b : Binaries O) (large text : Bool) → form_of (seen a.dtype) ≡ binaries_of large text
-      → MaskHasLength a.mask (pred (length (map number a.offsets)))
+      → MaskHasLength a.mask (slot_count a)
       → b.dtype ≡ a.dtype → map number b.offsets ≡ offsets (lengths (slots number a)) → b.values ≡ concatenated 0 (slots number a) → b.mask ≡ plain_mask a.mask
       → binary_layout number b ≡ canon (seen a.dtype) (denote (binary_layout number a))
   canonical_binaries a b large text form fits dtype os values mask =
@@ -81,7 +78,7 @@ module _ {O : Type 0} (number : O → ℤ) where
       ∙ sym
       (ap (λ ys. canon t (masked a.mask (map bytes ys))) (octets_pieces ns a.values)
       ∙ ap (λ ys. canon t (masked a.mask ys)) (map-map bytes octets (values_of number a))
-      ∙ strings_canonical t large text a.mask (values_of number a) form (pieces_fit a fits))
+      ∙ strings_canonical t large text a.mask (values_of number a) form (fits_values number a fits))
 
   -- ---- such parts fit
 
@@ -91,14 +88,14 @@ module _ {O : Type 0} (number : O → ℤ) where
       let last : end_of os ≡ length bs = ap end_of e ∙ end_joined (slots number a) ∙ ap length (sym d) in
       omega arith
 
-  pub canonical_mask_fits : (a : Binaries O) (os : List ℤ) (m : Option Bits) → MaskHasLength a.mask (pred (length (map number a.offsets)))
+  pub canonical_mask_fits : (a : Binaries O) (os : List ℤ) (m : Option Bits) → MaskHasLength a.mask (slot_count a)
       → os ≡ offsets (lengths (slots number a)) → m ≡ plain_mask a.mask → MaskHasLength m (pred (length os))
   canonical_mask_fits a os m fits e d =
-      let count : pred (length os) ≡ pred (length (map number a.offsets)) =
-      ap (λ xs. pred (length xs)) e ∙ offsets_count (slots number a) ∙ slots_length a.mask (values_of number a) (pieces_fit a fits)
-      ∙ pieces_count (map number a.offsets) a.values in
+      let count : pred (length os) ≡ slot_count a =
+      ap (λ xs. pred (length xs)) e ∙ offsets_count (slots number a) ∙ slots_length a.mask (values_of number a) (fits_values number a fits)
+      ∙ values_count number a in
       subst (λ m. MaskHasLength m (pred (length os))) (sym d)
-      (subst (MaskHasLength (plain_mask a.mask)) (sym count) (plain_fits a.mask (pred (length (map number a.offsets))) fits))
+      (subst (MaskHasLength (plain_mask a.mask)) (sym count) (plain_fits a.mask (slot_count a) fits))
 
 -- ---- texts stay texts
 
@@ -116,9 +113,14 @@ masked_texts (Some b) ps h = by b.bits ps h
     by (bit ∷ bits) [] h = tt
     by (bit ∷ bits) (p ∷ ps) h = (one_text bit p h.0, by bits ps h.1)
 
-pub canonical_texts : {O : Type 0} (number : O → ℤ) (a : Binaries O) (os : List ℤ) (bs : List ℕ) → AreTexts (values_of number a)
+canonical_texts : {O : Type 0} (number : O → ℤ) (a : Binaries O) (os : List ℤ) (bs : List ℕ) → AreTexts (values_of number a)
     → os ≡ offsets (lengths (slots number a)) → bs ≡ concatenated 0 (slots number a) → AreTexts (pieces (map to_nat os) bs)
 canonical_texts number a os bs h e d =
     let same : pieces (map to_nat os) bs ≡ map (λ x. unwrap_or x []) (slots number a) =
     ap (λ xs. pieces (map to_nat xs) bs) e ∙ ap (pieces (map to_nat (offsets (lengths (slots number a))))) d ∙ pieces_joined (λ x. unwrap_or x []) (slots number a) in
     subst AreTexts (sym same) (masked_texts a.mask (values_of number a) h)
+
+pub canonical_texts_if : (text : Bool) {O : Type 0} (number : O → ℤ) (a : Binaries O) (os : List ℤ) (bs : List ℕ) → AreTextsIf text (values_of number a)
+    → os ≡ offsets (lengths (slots number a)) → bs ≡ concatenated 0 (slots number a) → AreTextsIf text (pieces (map to_nat os) bs)
+canonical_texts_if true number a os bs h e d = canonical_texts number a os bs h e d
+canonical_texts_if false number a os bs h e d = tt

@@ -104,7 +104,7 @@ joined_count a positive fits = ap (λ n. n / a.size) (joined_length a fits) ∙ 
 -- ---- the layout
 
 -- an array of canonical parts is canonical
-pub canonical_sized : (a b : FixedSizeBinaries) → IsSound a.dtype a.size a.mask (length a.values)
+pub canonical_sized : (a b : FixedSizeBinaries) → IsSound a
     → b.dtype ≡ a.dtype → b.size ≡ a.size → b.values ≡ concatenated a.size (slots a) → b.mask ≡ plain_mask a.mask
     → fixed_size_binary_layout b ≡ canon (seen a.dtype) (denote (fixed_size_binary_layout a))
 canonical_sized a b sound dtype size values mask =
@@ -123,7 +123,7 @@ canonical_sized a b sound dtype size values mask =
 
 -- ---- the parts fit together
 
-module _ (a : FixedSizeBinaries) (sound : IsSound a.dtype a.size a.mask (length a.values)) where
+module _ (a : FixedSizeBinaries) (sound : IsSound a) where
   pub canonical_size : (t : ArrowDataType) → t ≡ a.dtype → size_or_zero (seen t) ≡ a.size
   canonical_size t e = ap (λ d. size_or_zero (seen d)) e ∙ ap (λ o. unwrap_or o 0) sound.sized
 

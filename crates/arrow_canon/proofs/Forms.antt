@@ -1,7 +1,7 @@
 -- The form of a type whose values have no children, by its physical type.
 use Rattle.std.proofs.Common.{◌≡◌, ℕ, Bool, true, false, refl, ap, sym, ◌∙◌, subst, Option, Some}
 use Rattle.std.specs.Prelude.{⊤}
-use Rattle.arrow_bytes.specs.Binaries.{physical_binary, physical_utf8}
+use Rattle.arrow_bytes.specs.Binaries.{layout_in}
 use Rattle.arrow_bytes.specs.FixedSizeBinaries.{declared_size}
 use Rattle.arrow_types.specs.TypeData.{TypeData}
 use Rattle.arrow_types.specs.TypeData as T
@@ -53,13 +53,11 @@ form_of_physical t k h e =
     let q : physical_by t (form_of t) ≡ Some k = sym (physical-by t) ∙ e in
     form_named t (form_of t) (subst IsNaming (sym q) h) ∙ ap named q
 
-pub bytes_form : (t : TypeData) (large : Bool) → physical_of t ≡ Some (physical_binary large) → form_of t ≡ binaries_of large false
-bytes_form t true e = form_of_physical t physical.LargeBinary tt e
-bytes_form t false e = form_of_physical t physical.Binary tt e
-
-pub texts_form : (t : TypeData) (large : Bool) → physical_of t ≡ Some (physical_utf8 large) → form_of t ≡ binaries_of large true
-texts_form t true e = form_of_physical t physical.LargeUtf8 tt e
-texts_form t false e = form_of_physical t physical.Utf8 tt e
+pub strings_form : (t : TypeData) (text large : Bool) → physical_of t ≡ Some (layout_in text large) → form_of t ≡ binaries_of large text
+strings_form t true true e = form_of_physical t physical.LargeUtf8 tt e
+strings_form t true false e = form_of_physical t physical.Utf8 tt e
+strings_form t false true e = form_of_physical t physical.LargeBinary tt e
+strings_form t false false e = form_of_physical t physical.Binary tt e
 
 -- a type of values of one size
 pub sized_form : (t : TypeData) (k : ℕ) → declared_size t ≡ Some k → form_of t ≡ fixed_size_binaries_of k

@@ -10,11 +10,7 @@ use Rattle.std.proofs.lemmas.Grind.{flat_map-append}
 use Rattle.arrow_buffers.specs.Bits.{Bits}
 use Rattle.arrow_buffers.specs.Offsets.{to_nat, Ascend, AreOffsets, end_from, end_of, ends as number_ends}
 use Rattle.arrow_buffers.proofs.Ascending.{offsets_end}
-use Rattle.arrow_bytes.specs.Binaries.{Binaries, slots, values_of}
-use Rattle.arrow_bytes.specs.FixedSizeBinaries.{FixedSizeBinaries, slot_count, slots as fixed_slots}
-use Rattle.arrow_bytes.proofs.Windows.{fits_values, slots_count}
-use Rattle.arrow_flat.specs.Pieces.{pieces_from, pieces, chunks}
-use Rattle.arrow_flat.proofs.Pieces.{chunk_count}
+use Rattle.arrow_flat.specs.Pieces.{pieces_from, pieces}
 use Rattle.arrow_flat.specs.Primitives.{MaskHasLength, masked_values}
 use Rattle.arrow_flat.proofs.Masked.{take_at, slots_length}
 use Rattle.arrow_layout.specs.Canon.{sums_from, offsets}
@@ -145,21 +141,16 @@ lengths_fit limit m os bs h =
     let c = offsets_end limit os h in
     omega arith
 
--- ---- how many slots there are
+-- ---- all slots
 
-module _ {O : Type 0} (number : O → ℤ) where
-  pub strings_count : (a : Binaries O) (n : ℕ) → MaskHasLength a.mask (pred (length (map number a.offsets))) → n + 1 ≡ length a.offsets → n ≡ length (slots number a)
-  strings_count a n fits h =
-      sym (slots_length a.mask (values_of number a) (fits_values number a fits) ∙ slots_count number a.offsets a.values n h)
+take_all : {A : Type 0} (n : ℕ) (xs : List A) → length xs ≤ n → take n xs ≡ xs
+take_all zero [] h = refl
+take_all zero (x ∷ xs) h = absurd (omega arith)
+take_all (suc n) [] h = refl
+take_all (suc n) (x ∷ xs) h = ap (λ ys. x ∷ ys) (take_all n xs (omega arith))
 
-  pub string_there : (a : Binaries O) (n i : ℕ) → MaskHasLength a.mask (pred (length (map number a.offsets))) → n + 1 ≡ length a.offsets → i < length (slots number a)
-      → i + 1 < length a.offsets
-  string_there a n i fits h l = let e = strings_count a n fits h in omega arith
-
-pub chunks_count : (a : FixedSizeBinaries) → MaskHasLength a.mask (slot_count a) → slot_count a ≡ length (fixed_slots a)
-chunks_count a fits =
-    let count : length (chunks a.size (slot_count a) a.values) ≡ slot_count a = chunk_count a.size (slot_count a) a.values in
-    sym (slots_length a.mask (chunks a.size (slot_count a) a.values) (subst (MaskHasLength a.mask) (sym count) fits) ∙ count)
-
-pub chunk_there : (a : FixedSizeBinaries) (i : ℕ) → MaskHasLength a.mask (slot_count a) → i < length (fixed_slots a) → i < slot_count a
-chunk_there a i fits l = let e = chunks_count a fits in omega arith
+pub all_slots : (m : Option Bits) (xs : List (List ℕ)) (n i : ℕ) → MaskHasLength m (length xs) → n ≡ length xs → n ≤ i
+    → take i (masked_values m xs) ≡ masked_values m xs
+all_slots m xs n i fits e l =
+    let count = slots_length m xs fits in
+    take_all i (masked_values m xs) (omega arith)

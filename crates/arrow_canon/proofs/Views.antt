@@ -16,8 +16,6 @@ use Rattle.arrow_flat.specs.Views.{View, inline, long, IsView, is_short, longs, 
 use Rattle.arrow_flat.proofs.Masked.{slot_at, null_at, take_at}
 use Rattle.arrow_views.specs.ViewArrays.{ViewArray, IsSound, AreViews, AreTextsIf, values_in, values_of, slots}
 use Rattle.arrow_views.proofs.Windows.{values_count, values_fit, slots_count}
-use Rattle.arrow_views.specs.Packing.{Packing, packed_on, packed_view}
-use Rattle.arrow_views.proofs.Packing.{pack_push, views_push, longs_push}
 use Rattle.arrow_layout.specs.Canon.{canon, bytes_or}
 use Rattle.arrow_layout.specs.Denote.{denote, masked}
 use Rattle.arrow_layout.specs.Fits.{Fits, Small}
@@ -58,11 +56,6 @@ nothing_there a i fits v l =
 pub slot_values_count : (a : ViewArray) → MaskHasLength a.mask (length a.views) → length (slot_values a) ≡ length a.views
 slot_values_count a fits = length-map (slots a) or_none ∙ slots_count a fits
 
-all_there : {A : Type 0} (P : A → Type 0) (xs : List A) (i : ℕ) (x : A) → AllByRecursion P xs → slice_get xs i ≡ Some x → P x
-all_there P [] i x h e = cc
-all_there P (y ∷ ys) zero x h e = let same : y ≡ x = cc in subst P same h.0
-all_there P (y ∷ ys) (suc i) x h e = all_there P ys i x h.1 e
-
 -- ---- how many bytes they have
 
 total_join : (us vs : List (List ℕ)) → total (us ++ vs) ≡ total us + total vs
@@ -78,14 +71,6 @@ pub total_first : (n : ℕ) (vs : List (List ℕ)) → total (take n vs) ≤ tot
 total_first zero vs = omega arith
 total_first (suc n) [] = omega arith
 total_first (suc n) (v ∷ vs) = let q : total (take n vs) ≤ total vs = total_first n vs in omega arith
-
-total_longs : (vs : List (List ℕ)) → total (longs vs) ≤ total vs
-total_longs [] = omega arith
-total_longs (v ∷ vs) = by (is_short v) (total_longs vs)
-  where
-    by : (s : Bool) → total (longs vs) ≤ total vs → total (cond s [] (v ∷ []) ++ longs vs) ≤ length v + total vs
-    by true h = omega arith
-    by false h = omega arith
 
 -- what a step of the count finds
 pub more_counted : (a : ViewArray) (i : ℕ) (value : List ℕ) (n : ℕ) → slice_get (slot_values a) i ≡ Some (octets value) → n ≡ total (take i (slot_values a)) → n + length value ≡ total (take (i + 1) (slot_values a))
@@ -136,83 +121,6 @@ masked_fit (Some b) vs h = by b.bits vs h
 
 pub slot_values_fit : (a : ViewArray) → AllByRecursion (IsView a.buffers) a.views → AllByRecursion IsPacked (slot_values a)
 slot_values_fit a h = masked_fit a.mask (values_of a) (all_map (IsView a.buffers) IsPacked (view_bytes a.buffers) (view_fits a.buffers) a.views h)
-
-pub value_fits : (a : ViewArray) (i : ℕ) (value : List ℕ) (limit : ℕ) → AllByRecursion (IsView a.buffers) a.views → slice_get (slot_values a) i ≡ Some (octets value) → limit ≡ view_limit
-    → length value ≤ limit
-value_fits a i value limit h e l =
-    let q : length (octets value) ≤ view_limit = all_there IsPacked (slot_values a) i (octets value) (slot_values_fit a h) e in
-    omega (arith, octets_count value)
-
--- ---- how many buffers there are
-
-module _ (limit : ℕ) (high : 4294967296 ≤ suc limit) where
-  -- Two neighbours have more bytes than the limit together.
-  count_after : (last : List ℕ) (us : List (List ℕ)) (k placed : ℕ) → 4294967296 * k + length last ≤ 2 * placed
-      → 4294967296 * (k + length (pack_after limit last us)) ≤ 4294967296 + 2 * (placed + total us)
-  count_after last [] k placed h = omega arith
-  count_after last (u ∷ us) k placed h =
-      by (nat_le (length last + length u) limit) refl (count_after (last ++ u) us k (placed + length u)) (count_after u us (suc k) (placed + length u))
-    where
-      by : (t : Bool) → nat_le (length last + length u) limit ≡ t
-          → (4294967296 * k + length (last ++ u) ≤ 2 * (placed + length u)
-          → 4294967296 * (k + length (pack_after limit (last ++ u) us)) ≤ 4294967296 + 2 * ((placed + length u) + total us))
-          → (4294967296 * suc k + length u ≤ 2 * (placed + length u)
-          → 4294967296 * (suc k + length (pack_after limit u us)) ≤ 4294967296 + 2 * ((placed + length u) + total us))
-          → 4294967296 * (k + length (cond t [] (last ∷ []) ++ pack_after limit (cond t (last ++ u) u) us)) ≤ 4294967296 + 2 * (placed + (length u + total us))
-      by true e f g = let q = f (omega (arith, length-append last u)) in omega (arith, q)
-      by false e f g =
-          let past : limit < length last + length u = leb-false (length last + length u) limit e in
-          let q = g (omega arith) in
-          omega (arith, q)
-
-  pack_count : (us : List (List ℕ)) → 4294967296 * length (pack limit us) ≤ 4294967296 + 2 * total us
-  pack_count [] = omega arith
-  pack_count (u ∷ us) =
-      let q : 4294967296 * (0 + length (pack_after limit u us)) ≤ 4294967296 + 2 * (length u + total us) = count_after u us 0 (length u) (omega arith) in
-      omega arith
-
-pub buffers_few : (a : ViewArray) (i : ℕ) (buffers : List (List ℕ)) → sum (map length (slot_values a)) ≤ 2 ^ 62 → buffers ≡ pack view_limit (longs (take i (slot_values a))) → length buffers < 4294967295
-buffers_few a i buffers few e =
-    let us = take i (slot_values a) in
-    let many : 4294967296 * length (pack view_limit (longs us)) ≤ 4294967296 + 2 * total (longs us) = pack_count view_limit (omega arith) (longs us) in
-    let all : total (longs us) ≤ 2 ^ 62 = omega (arith, total_longs us, total_first i (slot_values a), sum-total (slot_values a), few) in
-    let q : length (pack view_limit (longs us)) < 4294967295 = omega (arith, many, all) in
-    subst (λ bs. length bs < 4294967295) (sym e) q
-
--- ---- one value more
-
-abbrev packing : ℕ → List (List ℕ) → Packing
-packing limit buffers = record { limit = limit; buffers = buffers }
-
-abbrev packed_behind : Packing → List ℕ → Packing
-packed_behind p v = packing p.limit (cond (is_short v) p.buffers (packed_on p.limit p.buffers v))
-
-short_or_long : (limit : ℕ) (us : List (List ℕ)) (v : List ℕ) (s : Bool) → cond s (pack limit us) (packed_on limit (pack limit us) v) ≡ pack limit (us ++ cond s [] (v ∷ []))
-short_or_long limit us v true = ap (pack limit) (sym (append-nil us))
-short_or_long limit us v false = pack_push limit us v
-
-pub packed_next : (vs : List (List ℕ)) (i : ℕ) (v : List ℕ) → slice_get vs i ≡ Some v
-    → cond (is_short v) (pack view_limit (longs (take i vs))) (packed_on view_limit (pack view_limit (longs (take i vs))) v) ≡ pack view_limit (longs (take (i + 1) vs))
-packed_next vs i v e =
-    short_or_long view_limit (longs (take i vs)) v (is_short v)
-    ∙ ap (pack view_limit) (sym (longs_push (take i vs) v))
-    ∙ ap (λ us. pack view_limit (longs us)) (sym (take_at vs i v e))
-
-pub views_next : (vs : List (List ℕ)) (i : ℕ) (v : List ℕ) → AllByRecursion IsPacked vs → slice_get vs i ≡ Some v
-    → packed_views view_limit (take i vs) ++ packed_view view_limit (pack view_limit (longs (take i vs))) v ∷ [] ≡ packed_views view_limit (take (i + 1) vs)
-views_next vs i v h e =
-    sym (views_push view_limit (take i vs) v (all_take IsPacked i vs h)) ∙ ap (packed_views view_limit) (sym (take_at vs i v e))
-
--- what a step of the packing leaves
-pub slot_packed : (a : ViewArray) (i : ℕ) (v : List ℕ) (p : Packing) → slice_get (slot_values a) i ≡ Some v → p ≡ record { limit = view_limit; buffers = pack view_limit (longs (take i (slot_values a))) }
-    → packed_behind p v ≡ record { limit = view_limit; buffers = pack view_limit (longs (take (i + 1) (slot_values a))) }
-slot_packed a i v p e h = ap (λ q. packed_behind q v) h ∙ ap (packing view_limit) (packed_next (slot_values a) i v e)
-
-pub slot_viewed : (a : ViewArray) (i : ℕ) (v : List ℕ) (p : Packing) (us : List View) (u : View) → AllByRecursion (IsView a.buffers) a.views → slice_get (slot_values a) i ≡ Some v
-    → p ≡ record { limit = view_limit; buffers = pack view_limit (longs (take i (slot_values a))) } → us ≡ packed_views view_limit (take i (slot_values a)) → u ≡ packed_view p.limit p.buffers v
-    → us ++ u ∷ [] ≡ packed_views view_limit (take (i + 1) (slot_values a))
-slot_viewed a i v p us u w e h k l =
-    ap₂ (λ xs x. xs ++ x ∷ []) k (l ∙ ap (λ q. packed_view q.limit q.buffers v) h) ∙ views_next (slot_values a) i v (slot_values_fit a w) e
 
 -- ---- the layout
 

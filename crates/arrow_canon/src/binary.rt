@@ -1,59 +1,59 @@
-//! The canonical arrays of byte strings and texts.
+//! The canonical arrays of binary values and of strings.
 ghost use Rattle.std.specs.Prelude.{◌≡◌, ◌<◌, map, sum, IfOk};
-ghost use Rattle.arrow_types.specs.Seen.{seen};
-ghost use Rattle.arrow_layout.specs.Denote.{denote};
-ghost use Rattle.arrow_layout.specs.Canon.{canon, offsets as canon_offsets};
+ghost use Rattle.arrow_bytes.specs.Binaries.{slots};
+ghost use Rattle.arrow_layout.specs.Canon.{offsets as canon_offsets};
 ghost use Rattle.arrow_meaning.specs.Nodes.{binary_layout};
+ghost use Rattle.arrow_canon.specs.Canonical.{canonical_of};
 ghost use Rattle.arrow_canon.specs.Steps.{concatenated, lengths};
 
-use crate::byte_slots::ByteSlots;
 use crate::joined::{joined_bytes, offsets_from_zero, slot_lengths};
 use crate::mask::canonical_mask;
 use arrow_buffers::{Buffer, Offset, OffsetsBuffer};
-use arrow_bytes::{BinaryArray, Utf8Array};
+use arrow_bytes::OffsetArray;
+use arrow_flat::ViewType;
 use arrow_types::Mem;
 use std::alloc::Global;
 
-/// The canonical array of an array's slots: the bytes behind one another, none for a null, and offsets from 0.
-pub fn canonical_binary<O: Offset>(alloc: Global, array: &BinaryArray<O>) -> Mem<BinaryArray<O>>
-    ensures { IfOk result (λ a. binary_layout O.number a ≡ canon (seen array.now.dtype) (denote (binary_layout O.number array.now))) }
-{
-    array.offsets().len_proxy();
-    let (offsets, values) = canonical_strings::<O, BinaryArray<O>>(alloc, array)?;
-    let validity = canonical_mask(alloc, array.validity())?;
-    let dtype = array.dtype().try_clone(alloc)?;
-    Ok(BinaryArray::new(dtype, offsets, values, validity))
-}
-
-/// The canonical array of an array's slots: the texts behind one another, none for a null, and offsets from 0.
-pub fn canonical_utf8<O: Offset>(alloc: Global, array: &Utf8Array<O>) -> Mem<Utf8Array<O>>
-    ensures { IfOk result (λ a. binary_layout O.number a ≡ canon (seen array.now.dtype) (denote (binary_layout O.number array.now))) }
-{
-    array.offsets().len_proxy();
-    let (offsets, values) = canonical_strings::<O, Utf8Array<O>>(alloc, array)?;
-    let validity = canonical_mask(alloc, array.validity())?;
-    let dtype = array.dtype().try_clone(alloc)?;
-    Ok(Utf8Array::new(dtype, offsets, values, validity))
-}
-
-/// The offsets from 0 of an array's slots, and their bytes behind one another.
-fn canonical_strings<O: Offset, A: ByteSlots>(
+/// The canonical array of an array's slots: the bytes follow one another, none for a null, and the
+/// offsets begin at 0.
+pub fn canonical_binary<K: ViewType, O: Offset>(
     alloc: Global,
-    array: &A,
-) -> Mem<(OffsetsBuffer<O>, Buffer<u8>)>
-    requires { sum (lengths (A.slots array.now)) < O.limit }
-    ensures { IfOk result (λ p. (map O.number p.0 ≡ canon_offsets (lengths (A.slots array.now))) × (p.1 ≡ concatenated 0 (A.slots array.now))) }
+    array: &OffsetArray<K, O>,
+) -> Mem<OffsetArray<K, O>>
+    ensures { IfOk result (λ a.
+        binary_layout O.number a ≡ canonical_of (binary_layout O.number array.now)) }
 {
-    let offsets = canonical_offsets::<O, A>(alloc, array)?;
+    array.invariant();
+    let (offsets, values) = canonical_strings(alloc, array)?;
+    let validity = canonical_mask(alloc, array.validity())?;
+    let dtype = array.dtype().try_clone(alloc)?;
+    Ok(OffsetArray::new(dtype, offsets, values, validity))
+}
+
+/// The offsets from 0 of an array's slots, and their bytes one after another.
+fn canonical_strings<K: ViewType, O: Offset>(
+    alloc: Global,
+    array: &OffsetArray<K, O>,
+) -> Mem<(OffsetsBuffer<O>, Buffer<u8>)>
+    requires { sum (lengths (slots O.number array.now)) < O.limit }
+    ensures offsets { IfOk result (λ p.
+        map O.number p.0 ≡ canon_offsets (lengths (slots O.number array.now))) }
+    ensures values { IfOk result (λ p. p.1 ≡ concatenated 0 (slots O.number array.now)) }
+{
+    let offsets = canonical_offsets(alloc, array)?;
     let values = joined_bytes(alloc, array, 0, offsets.last().to_usize())?;
     let values = Buffer::from_vec(alloc, values)?;
     Ok((offsets, values))
 }
 
 /// The offsets from 0 of an array's slots.
-fn canonical_offsets<O: Offset, A: ByteSlots>(alloc: Global, array: &A) -> Mem<OffsetsBuffer<O>>
-    requires { sum (lengths (A.slots array.now)) < O.limit }
-    ensures { IfOk result (λ o. map O.number o ≡ canon_offsets (lengths (A.slots array.now))) }
+fn canonical_offsets<K: ViewType, O: Offset>(
+    alloc: Global,
+    array: &OffsetArray<K, O>,
+) -> Mem<OffsetsBuffer<O>>
+    requires { sum (lengths (slots O.number array.now)) < O.limit }
+    ensures { IfOk result (λ o.
+        map O.number o ≡ canon_offsets (lengths (slots O.number array.now))) }
 {
     let lengths = slot_lengths(alloc, array)?;
     offsets_from_zero(alloc, lengths.as_slice())

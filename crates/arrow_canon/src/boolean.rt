@@ -2,11 +2,8 @@
 ghost use Rattle.std.specs.Prelude.{◌≡◌, false, Some, IfOk};
 ghost use Rattle.arrow_buffers.specs.Bits.{plain};
 ghost use Rattle.arrow_flat.specs.Booleans.{slots};
-ghost use Rattle.arrow_types.specs.Seen.{seen};
-ghost use Rattle.arrow_types.specs.declared.datatype.PhysicalType.TheVariants as physical;
-ghost use Rattle.arrow_layout.specs.Denote.{denote};
-ghost use Rattle.arrow_layout.specs.Canon.{canon};
 ghost use Rattle.arrow_meaning.specs.Nodes.{boolean_layout};
+ghost use Rattle.arrow_canon.specs.Canonical.{canonical_of};
 ghost use Rattle.arrow_canon.specs.Steps.{values_or};
 
 use crate::mask::{canonical_mask, plain_bits};
@@ -17,8 +14,9 @@ use std::alloc::Global;
 
 /// The canonical array of an array's slots: false under nulls, and no bits before the first.
 pub fn canonical_boolean(alloc: Global, array: &BooleanArray) -> Mem<BooleanArray>
-    ensures { IfOk result (λ a. boolean_layout a ≡ canon (seen array.now.dtype) (denote (boolean_layout array.now))) }
+    ensures { IfOk result (λ a. boolean_layout a ≡ canonical_of (boolean_layout array.now)) }
 {
+    array.invariant();
     let values = canonical_bits(alloc, array)?;
     let validity = canonical_mask(alloc, array.validity())?;
     let dtype = array.dtype().try_clone(alloc)?;
@@ -29,7 +27,7 @@ pub fn canonical_boolean(alloc: Global, array: &BooleanArray) -> Mem<BooleanArra
 fn canonical_bits(alloc: Global, array: &BooleanArray) -> Mem<Bitmap>
     ensures { IfOk result (λ b. b ≡ plain (values_or false (slots array.now))) }
 {
-    array.dtype();
+    array.invariant();
     match array.validity() {
         None => plain_bits(alloc, array.values()),
         Some(mask) => array.values().and(alloc, mask),

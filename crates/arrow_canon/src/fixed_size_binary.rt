@@ -1,9 +1,7 @@
-//! The canonical array of byte strings of one size.
+//! The canonical array of binary values of one size.
 ghost use Rattle.std.specs.Prelude.{◌≡◌, IfOk};
-ghost use Rattle.arrow_types.specs.Seen.{seen};
-ghost use Rattle.arrow_layout.specs.Denote.{denote};
-ghost use Rattle.arrow_layout.specs.Canon.{canon};
 ghost use Rattle.arrow_meaning.specs.Nodes.{fixed_size_binary_layout};
+ghost use Rattle.arrow_canon.specs.Canonical.{canonical_of};
 
 use crate::joined::joined_bytes;
 use crate::mask::canonical_mask;
@@ -17,8 +15,10 @@ pub fn canonical_fixed_size_binary(
     alloc: Global,
     array: &FixedSizeBinaryArray,
 ) -> Mem<FixedSizeBinaryArray>
-    ensures { IfOk result (λ a. fixed_size_binary_layout a ≡ canon (seen array.now.dtype) (denote (fixed_size_binary_layout array.now))) }
+    ensures { IfOk result (λ a.
+        fixed_size_binary_layout a ≡ canonical_of (fixed_size_binary_layout array.now)) }
 {
+    array.invariant();
     let values = joined_bytes(alloc, array, array.size(), array.values().len())?;
     let values = Buffer::from_vec(alloc, values)?;
     let validity = canonical_mask(alloc, array.validity())?;

@@ -1,34 +1,38 @@
-//! The bytes of slots behind one another, and where each ends.
+//! The bytes of slots one after another, and where each ends.
 ghost use Rattle.std.specs.Prelude.{◌≡◌, ◌++◌, ◌<◌, map, length as count, [], replicate, sum, unwrap_or, IfOk, OnOk};
 ghost use Rattle.std.specs.Option.{option_copied};
+ghost use Rattle.arrow_flat.specs.Primitives.{masked_values};
 ghost use Rattle.arrow_layout.specs.Canon.{offsets};
 ghost use Rattle.arrow_canon.specs.Steps.{concatenated, lengths};
 
-use crate::byte_slots::ByteSlots;
 use arrow_buffers::{Offset, OffsetError, Offsets, OffsetsBuffer};
+use arrow_flat::{ArrayAccessor, ByteString};
 use arrow_types::Mem;
 use std::alloc::{AllocError, Global};
 
-/// The bytes of the slots in order, and so many zeros for a null, with room made for `room` bytes.
-pub(crate) fn joined_bytes<A: ByteSlots>(
+/// The bytes of the slots in order, and n zeros for a null, with room made for `room` bytes.
+pub(crate) fn joined_bytes<'a, A: ArrayAccessor<&'a [u8], ByteString>>(
     alloc: Global,
-    array: &A,
+    array: A,
     zeros: usize,
     room: usize,
 ) -> Mem<Vec<u8>>
-    ensures { IfOk result (λ v. v.items ≡ concatenated zeros (A.slots array.now)) }
+    requires { A.seen_slot ≡ option_copied }
+    ensures { IfOk result (λ v.
+        v.items ≡ concatenated zeros (masked_values (A.mask array) (A.values array))) }
 {
     let mut bytes = Vec::new(alloc);
     bytes.reserve(room)?;
-    for i in 0..array.slot_count() {
-        push_slot(&mut bytes, array.slot(i), zeros)?;
+    for i in 0..array.len() {
+        push_slot(&mut bytes, array.get(i), zeros)?;
     }
     Ok(bytes)
 }
 
-/// Appends the bytes of a slot, or so many zeros for a null.
+/// Appends the bytes of a slot, or n zeros for a null.
 fn push_slot(bytes: &mut Vec<u8>, slot: Option<&[u8]>, zeros: usize) -> Mem<()>
-    ensures { OnOk result (bytes.new.items ≡ bytes.old.items ++ unwrap_or (option_copied slot.entry) (replicate zeros 0)) }
+    ensures { OnOk result (bytes.new.items
+        ≡ bytes.old.items ++ unwrap_or (option_copied slot.entry) (replicate zeros 0)) }
 {
     match slot {
         Some(value) => bytes.extend_from_slice(value),
@@ -36,7 +40,7 @@ fn push_slot(bytes: &mut Vec<u8>, slot: Option<&[u8]>, zeros: usize) -> Mem<()>
     }
 }
 
-/// Appends so many zeros.
+/// Appends n zeros.
 fn push_zeros(bytes: &mut Vec<u8>, zeros: usize) -> Mem<()>
     ensures { OnOk result (bytes.new.items ≡ bytes.old.items ++ replicate zeros 0) }
 {
@@ -47,13 +51,18 @@ fn push_zeros(bytes: &mut Vec<u8>, zeros: usize) -> Mem<()>
 }
 
 /// The lengths of the slots in order, 0 for a null.
-pub(crate) fn slot_lengths<A: ByteSlots>(alloc: Global, array: &A) -> Mem<Vec<usize>>
-    ensures { IfOk result (λ v. v.items ≡ lengths (A.slots array.now)) }
+pub(crate) fn slot_lengths<'a, A: ArrayAccessor<&'a [u8], ByteString>>(
+    alloc: Global,
+    array: A,
+) -> Mem<Vec<usize>>
+    requires { A.seen_slot ≡ option_copied }
+    ensures { IfOk result (λ v.
+        v.items ≡ lengths (masked_values (A.mask array) (A.values array))) }
 {
     let mut lengths = Vec::new(alloc);
-    lengths.reserve(array.slot_count())?;
-    for i in 0..array.slot_count() {
-        lengths.push(length_of(array.slot(i)))?;
+    lengths.reserve(array.len())?;
+    for i in 0..array.len() {
+        lengths.push(length_of(array.get(i)))?;
     }
     Ok(lengths)
 }

@@ -3,7 +3,6 @@
 
 mod binary;
 mod boolean;
-mod byte_slots;
 mod fixed_size_binary;
 mod joined;
 mod mask;
@@ -11,7 +10,7 @@ mod normal;
 mod primitive;
 mod view;
 
-pub use binary::{canonical_binary, canonical_utf8};
+pub use binary::canonical_binary;
 pub use boolean::canonical_boolean;
 pub use fixed_size_binary::canonical_fixed_size_binary;
 pub use normal::normalized;

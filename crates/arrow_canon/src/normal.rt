@@ -1,12 +1,13 @@
-//! The canonical array of an array of any layout.
+//! The canonical array of an array of values.
 ghost use Rattle.std.specs.Prelude.{◌≡◌, Ok, IfOk, IsErrOf};
 ghost use Rattle.arrow_layout.specs.Fits.{Fits};
+ghost use Rattle.arrow_layout.specs.OfValues.{IsOfValues};
 ghost use Rattle.arrow_meaning.specs.Nodes.{layout_of, primitive_node_layout};
 ghost use Rattle.arrow_canon.specs.Canonical.{canonical_of, FitsAsViews};
 
 use crate::{
     canonical_binary, canonical_boolean, canonical_fixed_size_binary, canonical_primitive,
-    canonical_utf8, canonical_view,
+    canonical_view,
 };
 use arrow_meaning::{ArrayRef, Node, PrimitiveNode};
 use arrow_types::{GrowError, Mem};
@@ -14,7 +15,8 @@ use std::alloc::Global;
 
 /// The canonical values of fixed width.
 fn canonical_numbers(alloc: Global, node: &PrimitiveNode) -> Mem<PrimitiveNode>
-    ensures { IfOk result (λ n. primitive_node_layout n ≡ canonical_of (primitive_node_layout node.now)) }
+    ensures { IfOk result (λ n.
+        primitive_node_layout n ≡ canonical_of (primitive_node_layout node.now)) }
 {
     match node {
         PrimitiveNode::Int8(array) => canonical_primitive(alloc, array).map(PrimitiveNode::Int8),
@@ -54,10 +56,15 @@ fn in_memory(node: Mem<Node>) -> Result<Node, GrowError>
     }
 }
 
-/// The canonical node of a node's slots. Overflow exactly where the lengths of the views of a column sum to more than 2^62.
+/// The canonical node of a node's slots. Overflow exactly where the lengths of the views of a
+/// column sum to more than 2^62.
 fn canonical_node(alloc: Global, node: &Node) -> Result<Node, GrowError>
-    ensures ok { IfOk result (λ n. (layout_of n ≡ canonical_of (layout_of node.now)) × FitsAsViews (canonical_of (layout_of node.now))) }
-    ensures overflow { IsErrOf result GrowError.Overflow → Fits (canonical_of (layout_of node.now)) → ⊥ }
+    requires { IsOfValues (layout_of node.now) }
+    ensures of_values { IfOk result (λ n. IsOfValues (layout_of n)) }
+    ensures ok { IfOk result (λ n. (layout_of n ≡ canonical_of (layout_of node.now))
+        × FitsAsViews (canonical_of (layout_of node.now))) }
+    ensures overflow { IsErrOf result GrowError.Overflow
+        → Fits (canonical_of (layout_of node.now)) → ⊥ }
 {
     match node {
         Node::Boolean(array) => in_memory(canonical_boolean(alloc, array).map(Node::Boolean)),
@@ -66,19 +73,30 @@ fn canonical_node(alloc: Global, node: &Node) -> Result<Node, GrowError>
         Node::LargeBinary(array) => {
             in_memory(canonical_binary(alloc, array).map(Node::LargeBinary))
         }
-        Node::Utf8(array) => in_memory(canonical_utf8(alloc, array).map(Node::Utf8)),
-        Node::LargeUtf8(array) => in_memory(canonical_utf8(alloc, array).map(Node::LargeUtf8)),
+        Node::Utf8(array) => in_memory(canonical_binary(alloc, array).map(Node::Utf8)),
+        Node::LargeUtf8(array) => in_memory(canonical_binary(alloc, array).map(Node::LargeUtf8)),
         Node::FixedSizeBinary(array) => {
             in_memory(canonical_fixed_size_binary(alloc, array).map(Node::FixedSizeBinary))
         }
         Node::BinaryView(array) => canonical_view(alloc, array).map(Node::BinaryView),
         Node::Utf8View(array) => canonical_view(alloc, array).map(Node::Utf8View),
+        Node::Null { .. }
+        | Node::List { .. }
+        | Node::LargeList { .. }
+        | Node::Map { .. }
+        | Node::FixedSizeList { .. }
+        | Node::Struct { .. }
+        | Node::Union { .. }
+        | Node::Dictionary { .. } => unreachable!(),
     }
 }
 
-/// The canonical array of the slots of an array, of the same whole type: equal slots give one layout. Overflow exactly where a
-/// count or an offset of it passes its range, or the lengths of a column of views sum to more than 2^62.
+/// The canonical array of the slots of an array of values, of the same whole type: equal slots give
+/// one layout. Overflow exactly where a count or an offset of it passes its range, or the lengths of
+/// a column of views sum to more than 2^62.
 pub fn normalized(alloc: Global, array: &ArrayRef) -> Result<ArrayRef, GrowError>
+    requires { IsOfValues array.now }
+    ensures of_values { IfOk result (λ a. IsOfValues a) }
     ensures ok { IfOk result (λ a. (a ≡ canonical_of array.now) × Fits (canonical_of array.now)) }
     ensures overflow { IsErrOf result GrowError.Overflow → Fits (canonical_of array.now) → ⊥ }
 {
@@ -88,6 +106,6 @@ pub fn normalized(alloc: Global, array: &ArrayRef) -> Result<ArrayRef, GrowError
         Err(GrowError::OutOfMemory) => return Err(GrowError::OutOfMemory),
     };
     let canonical = ArrayRef::from_node(alloc, node)?;
-    canonical.node();
+    canonical.invariant();
     Ok(canonical)
 }

@@ -1,11 +1,8 @@
 //! The canonical array of values of fixed width.
 ghost use Rattle.std.specs.Prelude.{◌≡◌, IfOk};
 ghost use Rattle.arrow_flat.specs.Primitives.{slots};
-ghost use Rattle.arrow_types.specs.Seen.{seen};
-ghost use Rattle.arrow_types.specs.declared.datatype.PhysicalType.TheVariants as physical;
-ghost use Rattle.arrow_layout.specs.Denote.{denote};
-ghost use Rattle.arrow_layout.specs.Canon.{canon};
 ghost use Rattle.arrow_meaning.specs.Nodes.{primitive_layout};
+ghost use Rattle.arrow_canon.specs.Canonical.{canonical_of};
 ghost use Rattle.arrow_canon.specs.Steps.{values_or};
 
 use crate::mask::canonical_mask;
@@ -19,8 +16,10 @@ pub fn canonical_primitive<T: NativeType>(
     alloc: Global,
     array: &PrimitiveArray<T>,
 ) -> Mem<PrimitiveArray<T>>
-    ensures { IfOk result (λ a. primitive_layout T.parts a ≡ canon (seen array.now.dtype) (denote (primitive_layout T.parts array.now))) }
+    ensures { IfOk result (λ a.
+        primitive_layout T.parts a ≡ canonical_of (primitive_layout T.parts array.now)) }
 {
+    array.invariant();
     let values = canonical_values(alloc, array)?;
     let values = Buffer::from_vec(alloc, values)?;
     let validity = canonical_mask(alloc, array.validity())?;

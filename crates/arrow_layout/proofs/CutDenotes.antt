@@ -5,7 +5,8 @@ use Rattle.arrow_types.specs.Select.{select, nat_of}
 use Rattle.arrow_buffers.specs.Bits.{Bits}
 use Rattle.arrow_flat.specs.Slots.{Slot, bool, bytes, items, no_slots, null, num, slots_of, parts}
 use Rattle.arrow_flat.specs.Views.{view_bytes}
-use Rattle.arrow_layout.specs.Cut.{cut, cut_each, cut_mask, part}
+use Rattle.arrow_layout.specs.Cut.{cut, cut_each, part}
+use Rattle.arrow_flat.specs.Primitives.{cut_mask}
 use Rattle.arrow_layout.specs.Denote.{columns, denote, masked, rows}
 use Rattle.arrow_flat.specs.Pieces.{chunks, pieces}
 use Rattle.arrow_layout.specs.Forms.{form_of, ids_by}

@@ -1,5 +1,5 @@
 -- A part of a well-formed layout is well formed.
-use Rattle.std.proofs.Common.{Bool, List, None, Option, Some, [], ap, ap₂, arith, cond, drop, false, length, length-drop, length-take-le, map, pred, refl, replicate, subst, suc, sym, take, true, zero, ℕ, ℤ, ◌*◌, ◌+◌, ◌<◌, ◌^◌, ◌∙◌, ◌∷◌, ◌≡◌, ◌≤◌}
+use Rattle.std.proofs.Common.{Bool, List, None, Option, Some, [], ap, ap₂, arith, cond, drop, false, if◌then◌else◌, length, length-drop, length-take-le, map, pred, refl, replicate, subst, suc, sym, take, true, zero, ℕ, ℤ, ◌*◌, ◌+◌, ◌<◌, ◌^◌, ◌∙◌, ◌∷◌, ◌≡◌, ◌≤◌}
 use Rattle.std.proofs.lemmas.Bool.{and_parts}
 use Rattle.std.proofs.lemmas.List.{length-map}
 use Rattle.std.specs.List.{AllByRecursion, list_all}
@@ -9,7 +9,8 @@ use Rattle.arrow_types.specs.TypeData.{FieldList, TypeData, and_field, no_fields
 use Rattle.arrow_buffers.specs.Bits.{Bits, cut_bits, lead_of}
 use Rattle.arrow_flat.specs.Numbers.{AreInRange, InRange, ranges_of}
 use Rattle.arrow_flat.specs.Views.{IsView, view_bytes}
-use Rattle.arrow_layout.specs.Cut.{cut, cut_each, cut_mask, part}
+use Rattle.arrow_layout.specs.Cut.{cut, cut_each, part}
+use Rattle.arrow_flat.specs.Primitives.{cut_mask}
 use Rattle.arrow_flat.specs.Pieces.{pieces}
 use Rattle.arrow_layout.specs.Forms.{Form, fields_by, fixed_size_lists_of, form_of, ids_by, key_by, key_range, nulls_of, offset_limit, primitive_by, text_by}
 use Rattle.arrow_layout.specs.Layouts.{Layout, Layouts, binaries, booleans, child, dense_unions, dictionaries, fixed_size_binaries, fixed_size_lists, length_of, lengths_of, lists, no_layouts, nulls, primitives, sparse_unions, structs, type_of, views}
@@ -29,7 +30,7 @@ pub all_set_bits : (bits : List Bool) → list_all (λ b. b) bits ≡ true → r
 all_set_bits [] e = refl
 all_set_bits (b ∷ bits) e = let both = and_parts b (list_all (λ c. c) bits) e in ap₂ (λ x xs. x ∷ xs) (sym both.0) (all_set_bits bits both.1)
 
-needed_bits : (b : Bits) (n : ℕ) (c : Bool) → list_all (λ d. d) b.bits ≡ c → length b.bits ≡ n → mask_bits (cond c None (Some b)) n ≡ b.bits
+needed_bits : (b : Bits) (n : ℕ) (c : Bool) → list_all (λ d. d) b.bits ≡ c → length b.bits ≡ n → mask_bits (if c then None else Some b) n ≡ b.bits
 needed_bits b n true e l = ap (λ i. replicate i true) (sym l) ∙ all_set_bits b.bits e
 needed_bits b n false e l = refl
 
@@ -43,7 +44,7 @@ pub low_lead : (start n : ℕ) → lead_of start n < 8
 low_lead start zero = omega arith
 low_lead start (suc n) = omega arith
 
-needed_fits : (b : Bits) (n : ℕ) (c : Bool) → length b.bits ≡ n → b.lead < 8 → MaskFits (cond c None (Some b)) n
+needed_fits : (b : Bits) (n : ℕ) (c : Bool) → length b.bits ≡ n → b.lead < 8 → MaskFits (if c then None else Some b) n
 needed_fits b n true l h = tt
 needed_fits b n false l h = (l, h)
 

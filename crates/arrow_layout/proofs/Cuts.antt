@@ -1,11 +1,12 @@
 -- Parts of the lists that a layout holds.
-use Rattle.std.proofs.Common.{Bool, List, None, Option, Some, [], add-mul, ap, ap₂, arith, cond, drop, drop-drop, false, get_or, length, map, mul-le-mul_right, refl, replicate, suc, sym, take, take-take, true, zero, ℕ, ◌*◌, ◌+◌, ◌-◌, ◌∙◌, ◌∷◌, ◌≡◌, ◌≤◌}
+use Rattle.std.proofs.Common.{Bool, List, None, Option, Some, [], add-mul, ap, ap₂, arith, cond, drop, drop-drop, false, get_or, if◌then◌else◌, length, map, mul-le-mul_right, refl, replicate, suc, sym, take, take-take, true, zero, ℕ, ◌*◌, ◌+◌, ◌-◌, ◌∙◌, ◌∷◌, ◌≡◌, ◌≤◌}
 use Rattle.std.proofs.lemmas.Bool.{and_parts}
 use Rattle.std.proofs.lemmas.List.{drop-map, drop-replicate, drop-take, take-map, take-replicate}
 use Rattle.std.specs.List.{list_all}
 use Rattle.arrow_buffers.specs.Bits.{Bits, cut_bits}
 use Rattle.arrow_flat.specs.Slots.{Slot, Slots, chosen, null, slot}
-use Rattle.arrow_layout.specs.Cut.{cut_mask, part}
+use Rattle.arrow_layout.specs.Cut.{part}
+use Rattle.arrow_flat.specs.Primitives.{cut_mask}
 use Rattle.arrow_layout.specs.Denote.{first_slot, masked, masked_by, sparse_slots, with_column}
 use Rattle.arrow_flat.specs.Pieces.{chunks, pieces, pieces_from}
 use Rattle.arrow_layout.specs.WellFormed.{MaskFits}
@@ -32,7 +33,7 @@ all_true_masked [] xs e = refl
 all_true_masked (b ∷ bits) [] e = refl
 all_true_masked (b ∷ bits) (x ∷ xs) e = let both = and_parts b (list_all (λ c. c) bits) e in rw both.0 (ap (λ ys. x ∷ ys) (all_true_masked bits xs both.1))
 
-needed_masked_by : (b : Bits) (xs : List Slot) (c : Bool) → list_all (λ d. d) b.bits ≡ c → masked (cond c None (Some b)) xs ≡ masked_by b.bits xs
+needed_masked_by : (b : Bits) (xs : List Slot) (c : Bool) → list_all (λ d. d) b.bits ≡ c → masked (if c then None else Some b) xs ≡ masked_by b.bits xs
 needed_masked_by b xs true e = sym (all_true_masked b.bits xs e)
 needed_masked_by b xs false e = refl
 

@@ -25,7 +25,7 @@ below_nat : (n : ℕ) (z : ℤ) → IsBelow n z → nat_of z < n
 below_nat n (pos k) h = h
 below_nat n (negsuc k) h = absurd h
 
-first_legal : (ids : Option (List ℤ)) (n : ℕ) → 0 < n → AreIds ids n → first_number ids < number_limit ids n
+pub first_legal : (ids : Option (List ℤ)) (n : ℕ) → 0 < n → AreIds ids n → first_number ids < number_limit ids n
 first_legal None n z a = z
 first_legal (Some []) n z a = omega arith
 first_legal (Some (id ∷ ids)) n z a = below_nat 128 id a.1.0

@@ -30,7 +30,7 @@ use Rattle.arrow_flat.proofs.PackedViews.{buffers_bytes, length-views, lengths-v
 use Rattle.arrow_layout.proofs.Pieces.{pieces_joined}
 use Rattle.arrow_types.specs.TypeData as T
 
-zeros_in_range : (rs : List Range) → AllByRecursion (λ r. 0 < r.others) rs → AreInRange rs (map (λ r. pos 0) rs)
+pub zeros_in_range : (rs : List Range) → AllByRecursion (λ r. 0 < r.others) rs → AreInRange rs (map (λ r. pos 0) rs)
 zeros_in_range [] h = tt
 zeros_in_range (r ∷ rs) h = (h.0, zeros_in_range rs h.1)
 
@@ -57,7 +57,7 @@ binary_bytes_fit text null h = tt
 binary_bytes_fit text (bytes bs) h = h.0
 binary_bytes_fit text _ h = absurd h
 
-empty_text : (text : Bool) → IsTextIf text []
+pub empty_text : (text : Bool) → IsTextIf text []
 empty_text true = IsUtf8-nil
 empty_text false = tt
 

@@ -5,11 +5,11 @@ use Rattle.arrow_layout.specs.Layouts.{Layout, Layouts, binaries, booleans, chil
 use Rattle.arrow_layout.specs.Paths.{children_of}
 use Rattle.arrow_layout.specs.WellFormed.{AreWellFormed, WellFormed}
 
-join_children : (P : ℕ → Type 0) (ls : Layouts) → HaveLengths P ls → AllWellFormed ls → AreWellFormed P ls
+pub join_children : (P : ℕ → Type 0) (ls : Layouts) → HaveLengths P ls → AllWellFormed ls → AreWellFormed P ls
 join_children P no_layouts h w = tt
 join_children P (child l ls) h w = (h.0, w.0, join_children P ls h.1 w.1)
 
-any_lengths : (ls : Layouts) → HaveLengths (λ i. 0 ≤ i) ls
+pub any_lengths : (ls : Layouts) → HaveLengths (λ i. 0 ≤ i) ls
 any_lengths no_layouts = tt
 any_lengths (child l ls) = (omega arith, any_lengths ls)
 

@@ -20,6 +20,9 @@ pub mod Lengths
 pub mod Made
 pub mod Masks
 pub mod Named
+pub mod NullForms
+pub mod NullLayouts
+pub mod OfValues
 pub mod Physical
 pub mod Pieces
 pub mod Remasked

@@ -1,20 +1,12 @@
 -- A part of a layout.
-use Rattle.std.specs.Prelude.{ℕ, suc, ◌+◌, ◌*◌, cond, List, take, drop, Option, Some, None}
-use Rattle.std.specs.List.{list_all}
-use Rattle.arrow_buffers.specs.Bits.{Bits, cut_bits}
+use Rattle.std.specs.Prelude.{ℕ, suc, ◌+◌, ◌*◌, List, take, drop}
+use Rattle.arrow_buffers.specs.Bits.{cut_bits}
+use Rattle.arrow_flat.specs.Primitives.{cut_mask}
 use Rattle.arrow_layout.specs.Layouts.{Layout, nulls, booleans, primitives, binaries, fixed_size_binaries, views, lists, fixed_size_lists, structs, sparse_unions, dense_unions, dictionaries, Layouts, no_layouts, child}
 
 -- The n items from o on.
 abbrev pub part : {A : Type 0} → ℕ → ℕ → List A → List A
 part o n xs = take n (drop o xs)
-
--- The mask, if a bit of it is unset.
-abbrev pub if_needed : Bits → Option Bits
-if_needed b = cond (list_all (λ c. c) b.bits) None (Some b)
-
-abbrev pub cut_mask : ℕ → ℕ → Option Bits → Option Bits
-cut_mask o n None = None
-cut_mask o n (Some b) = if_needed (cut_bits b o n)
 
 -- The layout of the n slots from o on. Bytes, buffers, the children of lists, maps and unions, and the values of
 -- dictionaries stay as they are.

@@ -8,7 +8,10 @@ pub mod Forms
 pub mod LayoutCode
 pub mod Layouts
 pub mod Masks
+pub mod NodeCount
+pub mod NullLayout
 pub mod Nulled
+pub mod OfValues
 pub mod Paths
 pub mod Plain
 pub mod Shown

@@ -1,10 +1,10 @@
 //! Laws of layouts and of their canonical form. The contract of each function is the law; its body does nothing.
 
-ghost use Rattle.std.specs.Prelude.{◌≡◌, ◌↔◌, ℕ, ◌+◌, ◌≤◌, List, [], ◌++◌, length, take, drop, Option};
+ghost use Rattle.std.specs.Prelude.{◌≡◌, ◌↔◌, ℕ, ◌+◌, ◌≤◌, List, [], ◌++◌, length, take, drop, replicate, Option};
 ghost use Rattle.arrow_types.specs.TypeData.{TypeData};
 ghost use Rattle.arrow_types.specs.Carried.{IsCarried};
 ghost use Rattle.arrow_flat.specs.Slots.{Slot};
-ghost use Rattle.arrow_layout.specs.SlotsOf.{IsSlot, HasSlots};
+ghost use Rattle.arrow_layout.specs.SlotsOf.{IsSlot, HasSlots, fill};
 ghost use Rattle.arrow_layout.specs.Layouts.{Layout, type_of, length_of};
 ghost use Rattle.arrow_layout.specs.WellFormed.{WellFormed, MaskFits};
 ghost use Rattle.arrow_layout.specs.Cut.{cut};
@@ -12,6 +12,7 @@ ghost use Rattle.arrow_layout.specs.Denote.{denote, masked, under};
 ghost use Rattle.arrow_layout.specs.Canon.{canon};
 ghost use Rattle.arrow_layout.specs.Fits.{Fits, Small};
 ghost use Rattle.arrow_layout.specs.Canonical.{Canonical};
+ghost use Rattle.arrow_layout.specs.NullLayout.{null_layout};
 ghost use Rattle.arrow_layout.specs.Spelling.{slot_bytes, IsShort};
 ghost use Rattle.arrow_buffers.specs.Bits.{Bits};
 ghost use Rattle.arrow_layout.specs.Masks.{HasMask, KeysInRange, with_mask};
@@ -63,4 +64,14 @@ pub fn mask_is_changed()
     ensures slots { (m : Option Bits) (l : Layout) → HasMask l → denote (with_mask m l) ≡ masked m (under l) }
     ensures well_formed { (m : Option Bits) (l : Layout) → WellFormed l → MaskFits m (length_of l) → KeysInRange m l → WellFormed (with_mask m l) }
     ensures of_type { (m : Option Bits) (l : Layout) → type_of (with_mask m l) ≡ type_of l }
+{}
+
+/// The layout of slots that say nothing denotes fillings of its type, has the type, and is well formed where it fits; that
+/// of no slots always fits.
+pub fn null_layout_denotes()
+    ensures slots { (t : TypeData) (n : ℕ) → denote (null_layout t n) ≡ replicate n (fill t) }
+    ensures well_formed { (t : TypeData) (n : ℕ) → IsCarried t → Fits (null_layout t n) → WellFormed (null_layout t n) }
+    ensures of_type { (t : TypeData) (n : ℕ) → type_of (null_layout t n) ≡ t }
+    ensures count { (t : TypeData) (n : ℕ) → length_of (null_layout t n) ≡ n }
+    ensures none { (t : TypeData) → Fits (null_layout t 0) }
 {}

@@ -1,12 +1,10 @@
 -- Flat arrays as layouts: well formed, cut, and under another mask.
 use Rattle.std.proofs.Common.{◌≡◌, ◌+◌, ◌-◌, ◌*◌, ◌/◌, ◌%◌, ◌^◌, ◌<◌, ◌≤◌, ℕ, zero, suc, Bool, true, false, cond, List, [], ◌∷◌, length, map, take, drop, refl, ap, sym, ◌∙◌, subst, arith, Option, Some, None}
 use Rattle.std.specs.Prelude.{ℤ, pos, negsuc, pred, ◌≤ℤ◌}
-use Rattle.std.specs.List.{AllByRecursion, list_all}
+use Rattle.std.specs.List.{AllByRecursion}
 use Rattle.std.proofs.lemmas.Int.{ints}
 use Rattle.std.proofs.lemmas.List.{take-map, drop-map, length-map}
 use Rattle.std.proofs.Math.Nat.{mod-add-div}
-use Rattle.arrow_buffers.specs.Bits.{Bits, cut_bits, count_unset}
-use Rattle.arrow_buffers.proofs.Bytes.{none_unset, some_unset}
 use Rattle.arrow_buffers.proofs.Windows.{window_length}
 use Rattle.arrow_buffers.specs.Offsets.{end_from, end_of}
 use Rattle.arrow_buffers.specs.Offsets as buffers
@@ -27,11 +25,11 @@ use Rattle.arrow_bytes.specs.Binaries.{Binaries}
 use Rattle.arrow_bytes.specs.Binaries as bytes
 use Rattle.arrow_bytes.specs.FixedSizeBinaries.{FixedSizeBinaries, slot_count}
 use Rattle.arrow_bytes.specs.FixedSizeBinaries as sized
-use Rattle.arrow_layout.specs.Cut.{part, cut_mask, cut}
+use Rattle.arrow_layout.specs.Cut.{part, cut}
 use Rattle.arrow_layout.specs.Forms.{form_of, booleans_of, binaries_of, views_of, large_by, text_by}
 use Rattle.arrow_views.specs.ViewArrays.{ViewArray, AreTextsIf, values_in}
 use Rattle.arrow_views.specs.ViewArrays as viewed
-use Rattle.arrow_layout.specs.Layouts.{booleans, primitives, binaries, fixed_size_binaries, views}
+use Rattle.arrow_layout.specs.Layouts.{primitives, binaries, fixed_size_binaries}
 use Rattle.arrow_meaning.specs.Nodes.{boolean_layout, primitive_layout, binary_layout, fixed_size_binary_layout, view_layout}
 use Rattle.arrow_flat.specs.Natives.{AreBytes}
 use Rattle.arrow_layout.specs.SlotsOf.{IsTextIf}
@@ -78,21 +76,13 @@ kind_form false true t e = flat_form t physical.Utf8 e tt
 kind_form true false t e = flat_form t physical.LargeBinary e tt
 kind_form true true t e = flat_form t physical.LargeUtf8 e tt
 
-bytes_kind : (large : Bool) → bytes.physical_binary large ≡ binary_kind large false
-bytes_kind true = refl
-bytes_kind false = refl
+in_kind : (text large : Bool) → bytes.layout_in text large ≡ binary_kind large text
+in_kind true true = refl
+in_kind true false = refl
+in_kind false true = refl
+in_kind false false = refl
 
-text_kind : (large : Bool) → bytes.physical_utf8 large ≡ binary_kind large true
-text_kind true = refl
-text_kind false = refl
-
-pub binary_form : (large : Bool) (t : TypeData) → physical_of t ≡ Some (bytes.physical_binary large) → form_of t ≡ binaries_of large false
-binary_form large t e = kind_form large false t (e ∙ ap Some (bytes_kind large))
-
-pub utf8_form : (large : Bool) (t : TypeData) → physical_of t ≡ Some (bytes.physical_utf8 large) → form_of t ≡ binaries_of large true
-utf8_form large t e = kind_form large true t (e ∙ ap Some (text_kind large))
-
-same_naturals : (os : List ℤ) → map buffers.to_nat os ≡ map nat_of os
+pub same_naturals : (os : List ℤ) → map buffers.to_nat os ≡ map nat_of os
 same_naturals [] = refl
 same_naturals (pos n ∷ os) = ap (λ ns. n ∷ ns) (same_naturals os)
 same_naturals (negsuc n ∷ os) = ap (λ ns. 0 ∷ ns) (same_naturals os)
@@ -104,6 +94,10 @@ all_bytes (x ∷ xs) = (tt, all_bytes xs)
 all_texts : (xs : List (List ℕ)) → AreTexts xs → AllByRecursion (IsTextIf true) xs
 all_texts [] h = tt
 all_texts (x ∷ xs) h = (h.0, all_texts xs h.1)
+
+all_if : (text : Bool) (os bs : List ℕ) → bytes.AreTextsIf text (pieces os bs) → AllByRecursion (IsTextIf text) (pieces os (octets bs))
+all_if true os bs h = all_texts (pieces os (octets bs)) (texts_of_octets os bs h)
+all_if false os bs h = all_bytes (pieces os (octets bs))
 
 module _ {O : Type 0} (number : O → ℤ) where
   by_parts : (large text : Bool) (limit : ℕ) (a : Binaries O) → IsArray (binary_kind large text) a.dtype a.mask (pred (length (map number a.offsets))) → end_of (map number a.offsets) ≤ length a.values
@@ -124,32 +118,19 @@ module _ {O : Type 0} (number : O → ℤ) where
         subst (λ x. AllByRecursion (IsTextIf x) (pieces (map nat_of (map number a.offsets)) (octets a.values))) t texts,
       )
 
-  pub well_formed_binary : (large : Bool) (limit : ℕ) (a : Binaries O) → bytes.IsSound (bytes.physical_binary large) a.dtype a.mask (map number a.offsets) (length a.values)
-      → limit ≡ cond large (2 ^ 63) (2 ^ 31) → buffers.AreOffsets limit (map number a.offsets) → pred (length (map number a.offsets)) < 2 ^ 64 → length a.values < 2 ^ 64 → WellFormed (binary_layout number a)
-  well_formed_binary large limit a sound e ascend slots short =
-      by_parts large false limit a (subst (λ k. IsArray k a.dtype a.mask (pred (length (map number a.offsets)))) (bytes_kind large) sound.array) sound.within e ascend slots short
-      (all_bytes (pieces (map nat_of (map number a.offsets)) (octets a.values)))
-
-  pub well_formed_utf8 : (large : Bool) (limit : ℕ) (a : Binaries O) → bytes.IsSound (bytes.physical_utf8 large) a.dtype a.mask (map number a.offsets) (length a.values)
-      → AreTexts (pieces (map buffers.to_nat (map number a.offsets)) a.values)
-      → limit ≡ cond large (2 ^ 63) (2 ^ 31) → buffers.AreOffsets limit (map number a.offsets) → pred (length (map number a.offsets)) < 2 ^ 64 → length a.values < 2 ^ 64 → WellFormed (binary_layout number a)
-  well_formed_utf8 large limit a sound texts e ascend slots short =
-      by_parts large true limit a (subst (λ k. IsArray k a.dtype a.mask (pred (length (map number a.offsets)))) (text_kind large) sound.array) sound.within e ascend slots short
-      (all_texts (pieces (map nat_of (map number a.offsets)) (octets a.values))
-      (texts_of_octets (map nat_of (map number a.offsets)) a.values (subst (λ ns. AreTexts (pieces ns a.values)) (same_naturals (map number a.offsets)) texts)))
-
--- as many slots as a usize counts
-pub slots_short : {O : Type 0} (number : O → ℤ) (os : List O) (n : ℕ) → n + 1 ≡ length os → n < 2 ^ 64 → pred (length (map number os)) < 2 ^ 64
-slots_short number os n e l =
-    let same : pred (length (map number os)) ≡ n = ap pred (length-map os number ∙ sym e) ∙ before n in
-    omega (arith, same, l)
-  where
-    before : (n : ℕ) → pred (n + 1) ≡ n
-    before n = let q : n + 1 ≡ suc n = omega arith in ap pred q
+  pub well_formed_offsets : (text large : Bool) (limit : ℕ) (a : Binaries O) → bytes.IsSound text large number a
+      → limit ≡ cond large (2 ^ 63) (2 ^ 31) → buffers.AreOffsets limit (map number a.offsets) → bytes.slot_count a < 2 ^ 64 → length a.values < 2 ^ 64 → WellFormed (binary_layout number a)
+  well_formed_offsets text large limit a sound e ascend slots short =
+      let many : pred (length (map number a.offsets)) ≡ bytes.slot_count a = ap pred (length-map a.offsets number) in
+      by_parts large text limit a
+      (subst (λ n. IsArray (binary_kind large text) a.dtype a.mask n) (sym many) (subst (λ k. IsArray k a.dtype a.mask (bytes.slot_count a)) (in_kind text large) sound.array))
+      sound.within e ascend (omega (arith, many, slots)) short
+      (all_if text (map nat_of (map number a.offsets)) a.values
+      (subst (λ ns. bytes.AreTextsIf text (pieces ns a.values)) (same_naturals (map number a.offsets)) sound.texts))
 
 -- ---- byte strings of one size
 
-pub well_formed_sized : (a : FixedSizeBinaries) → sized.IsSound a.dtype a.size a.mask (length a.values) → length a.values < 2 ^ 64 → slot_count a < 2 ^ 64 → WellFormed (fixed_size_binary_layout a)
+pub well_formed_sized : (a : FixedSizeBinaries) → sized.IsSound a → length a.values < 2 ^ 64 → slot_count a < 2 ^ 64 → WellFormed (fixed_size_binary_layout a)
 well_formed_sized a sound short slots =
     let count = octets_count a.values in
     let whole : length a.values ≡ length a.values / a.size * a.size = multiple (length a.values) a.size sound.multiple in (
@@ -164,68 +145,23 @@ well_formed_sized a sound short slots =
 
 -- ---- parts
 
--- the mask that a part keeps
-pub dropped : (b : Bits) (o n : ℕ) → count_unset (cut_bits b o n).bits ≡ 0 → None ≡ cut_mask o n (Some b)
-dropped b o n e = sym (ap (λ x. cond x None (Some (cut_bits b o n))) (none_unset (cut_bits b o n).bits e))
-
-pub kept : (b : Bits) (o n : ℕ) → (count_unset (cut_bits b o n).bits ≡ 0 → ⊥) → Some (cut_bits b o n) ≡ cut_mask o n (Some b)
-kept b o n h = sym (ap (λ x. cond x None (Some (cut_bits b o n))) (some_unset (cut_bits b o n).bits h))
-
-pub cut_fits : (m : Option Bits) (n o k : ℕ) → MaskCovers m n → o + k ≤ n → MaskCovers (cut_mask o k m) k
-cut_fits None n o k h l = tt
-cut_fits (Some b) n o k h l = by (list_all (λ c. c) (cut_bits b o k).bits)
-  where
-    by : (all : Bool) → MaskCovers (cond all None (Some (cut_bits b o k))) k
-    by true = tt
-    by false = sym (window_length b.bits o k (omega (arith, h, l)))
-
 pub part-map : {A B : Type 0} (f : A → B) (o n : ℕ) (xs : List A) → map f (take n (drop o xs)) ≡ part o n (map f xs)
 part-map f o n xs = sym (take-map f n (drop o xs)) ∙ ap (take n) (sym (drop-map f o xs))
 
--- a mask that is cut fits the part
-pub fits_part : (m v : Option Bits) (len o n k : ℕ) → v ≡ cut_mask o n m → MaskCovers m len → o + n ≤ len → n ≡ k → MaskCovers v k
-fits_part m v len o n k e h l same = subst (MaskCovers v) same (subst (λ w. MaskCovers w n) (sym e) (cut_fits m len o n h l))
-
--- counts of parts
-pub slots_part : {A : Type 0} (xs : List A) (o n : ℕ) → o + n < length xs → n ≡ pred (length (take (suc n) (drop o xs)))
-slots_part xs o n h = ap pred (window_length xs o (suc n) (omega arith))
-
-pub chunks_part : (xs : List ℕ) (k o n : ℕ) → 0 < k → o + n ≤ length xs / k → n ≡ length (take (n * k) (drop (o * k) xs)) / k
+chunks_part : (xs : List ℕ) (k o n : ℕ) → 0 < k → o + n ≤ length xs / k → n ≡ length (take (n * k) (drop (o * k) xs)) / k
 chunks_part xs k o n p h = sym (whole_count n k p) ∙ ap (λ l. l / k) (window_length xs (o * k) (n * k) (span_within (length xs) k o n h))
 
-below_count : (n k : ℕ) → n ≤ pred k → 0 < k → n < k
-below_count n zero h p = absurd (omega (arith, p))
-below_count n (suc k) h p = omega (arith, h)
+pub primitives_part : {T : Type 0} (parts : T → List ℤ) (a : Primitives T) (o n : ℕ) → primitive_layout parts (flat.cut a o n) ≡ cut (primitive_layout parts a) o n
+primitives_part parts a o n = ap (primitives (seen a.dtype) (flat.cut_mask o n a.mask)) (part-map parts o n a.values)
 
-pub before_last : {O : Type 0} (number : O → ℤ) (os : List O) (n i : ℕ) → i ≤ pred (length (map number os)) → n + 1 ≡ length os → i < length os
-before_last number os n i h e = below_count i (length os) (subst (λ k. i ≤ pred k) (length-map os number) h) (omega (arith, e))
+pub binaries_part : {O : Type 0} (number : O → ℤ) (a : Binaries O) (o n : ℕ) → binary_layout number (bytes.cut a o n) ≡ cut (binary_layout number a) o n
+binaries_part number a o n = ap (λ os. binaries (seen a.dtype) (flat.cut_mask o n a.mask) os (octets a.values)) (part-map number o (suc n) a.offsets)
 
--- the layouts of parts
-pub booleans_part : (a b : Booleans) (v : Option Bits) (o n : ℕ) → b ≡ bools.cut a o n → v ≡ cut_mask o n a.mask
-    → booleans (seen b.dtype) v b.values ≡ cut (boolean_layout a) o n
-booleans_part a b v o n e m = ap (λ c. booleans (seen c.dtype) v c.values) e ∙ ap (λ w. booleans (seen a.dtype) w (cut_bits a.values o n)) m
-
-pub primitives_part : {T : Type 0} (parts : T → List ℤ) (a b : Primitives T) (v : Option Bits) (o n : ℕ) → b ≡ flat.cut a o n → v ≡ cut_mask o n a.mask
-    → primitives (seen b.dtype) v (map parts b.values) ≡ cut (primitive_layout parts a) o n
-primitives_part parts a b v o n e m =
-    ap (λ c. primitives (seen c.dtype) v (map parts c.values)) e ∙ ap (λ w. primitives (seen a.dtype) w (map parts (take n (drop o a.values)))) m
-    ∙ ap (primitives (seen a.dtype) (cut_mask o n a.mask)) (part-map parts o n a.values)
-
-pub binaries_part : {O : Type 0} (number : O → ℤ) (a b : Binaries O) (v : Option Bits) (o n : ℕ) → b ≡ bytes.cut a o n → v ≡ cut_mask o n a.mask
-    → binaries (seen b.dtype) v (map number b.offsets) (octets b.values) ≡ cut (binary_layout number a) o n
-binaries_part number a b v o n e m =
-    ap (λ c. binaries (seen c.dtype) v (map number c.offsets) (octets c.values)) e
-    ∙ ap (λ w. binaries (seen a.dtype) w (map number (take (suc n) (drop o a.offsets))) (octets a.values)) m
-    ∙ ap (λ os. binaries (seen a.dtype) (cut_mask o n a.mask) os (octets a.values)) (part-map number o (suc n) a.offsets)
-
-pub fixed_size_binaries_part : (a b : FixedSizeBinaries) (v : Option Bits) (o n : ℕ) → 0 < a.size → o + n ≤ slot_count a → b ≡ sized.cut a o n → v ≡ cut_mask o n a.mask
-    → fixed_size_binaries (seen b.dtype) v b.size (slot_count b) (octets b.values) ≡ cut (fixed_size_binary_layout a) o n
-fixed_size_binaries_part a b v o n p h e m =
+pub fixed_size_binaries_part : (a : FixedSizeBinaries) (o n : ℕ) → 0 < a.size → o + n ≤ slot_count a → fixed_size_binary_layout (sized.cut a o n) ≡ cut (fixed_size_binary_layout a) o n
+fixed_size_binaries_part a o n p h =
     let k = a.size in
-    ap (λ c. fixed_size_binaries (seen c.dtype) v c.size (slot_count c) (octets c.values)) e
-    ∙ ap (λ w. fixed_size_binaries (seen a.dtype) w k (length (take (n * k) (drop (o * k) a.values)) / k) (octets (take (n * k) (drop (o * k) a.values)))) m
-    ∙ ap (λ i. fixed_size_binaries (seen a.dtype) (cut_mask o n a.mask) k i (octets (take (n * k) (drop (o * k) a.values)))) (sym (chunks_part a.values k o n p h))
-    ∙ ap (fixed_size_binaries (seen a.dtype) (cut_mask o n a.mask) k n) (part-map (λ b. b % 256) (o * k) (n * k) a.values)
+    ap (λ i. fixed_size_binaries (seen a.dtype) (flat.cut_mask o n a.mask) k i (octets (take (n * k) (drop (o * k) a.values)))) (sym (chunks_part a.values k o n p h))
+    ∙ ap (fixed_size_binaries (seen a.dtype) (flat.cut_mask o n a.mask) k n) (part-map (λ b. b % 256) (o * k) (n * k) a.values)
 
 -- ---- views
 
@@ -251,6 +187,3 @@ well_formed_view text a raw sound e short =
       subst (AllByRecursion AreBytes) e (buffers_are_bytes raw),
       subst (λ x. AllByRecursion (IsTextIf x) (values_in a.buffers a.views)) t (texts_if text (values_in a.buffers a.views) sound.texts),
     )
-
-pub views_part : (a b : ViewArray) (v : Option Bits) (o n : ℕ) → b ≡ viewed.cut a o n → v ≡ cut_mask o n a.mask → views (seen b.dtype) v b.views b.buffers ≡ cut (view_layout a) o n
-views_part a b v o n e m = ap (λ c. views (seen c.dtype) v c.views c.buffers) e ∙ ap (λ w. views (seen a.dtype) w (take n (drop o a.views)) a.buffers) m

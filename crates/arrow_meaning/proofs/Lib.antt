@@ -1,6 +1,9 @@
+pub mod Children
 pub mod FlatKinds
 pub mod FlatLayouts
-pub mod Held
+pub mod FlatSlots
+pub mod Variants
+pub mod KeysNamed
+pub mod NodeParts
 pub mod Octets
 pub mod Primitives
-pub mod Remask

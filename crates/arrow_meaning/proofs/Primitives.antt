@@ -17,7 +17,7 @@ use Rattle.arrow_flat.specs.Slots.{null, num}
 use Rattle.arrow_layout.specs.Denote.{masked_by, masked}
 use Rattle.arrow_layout.specs.Forms.{Form, nulls_of, booleans_of, primitives_of, binaries_of, fixed_size_binaries_of, views_of, lists_of, fixed_size_lists_of, structs_of, unions_of, dictionaries_of, no_form, form_of, primitive_by}
 use Rattle.arrow_layout.specs.Layouts.{primitives}
-use Rattle.arrow_meaning.specs.Nodes.{primitive_layout, primitive_slot}
+use Rattle.arrow_meaning.specs.Nodes.{primitive_layout}
 use Rattle.arrow_layout.specs.WellFormed.{MaskFits, IsColumnOf, WellFormed}
 use Rattle.arrow_layout.proofs.Physical.{list_kind, physical_by, physical-by}
 
@@ -79,25 +79,3 @@ well_formed_primitive p parts h a sound short =
     well_formed_by (seen a.dtype) p a.mask (map parts a.values) form
     (record { carried = sound.carried; of_form = form; mask = subst (MaskFits a.mask) (sym e) (mask_fits a.mask (length a.values) sound.fits sound.led); count = omega (arith, e, short) })
     (are_numbers p parts h a.values)
-
--- ---- what it denotes
-
--- the slots of an array's layout are its optional values
-pub slots_of_values : {T : Type 0} (parts : T → List ℤ) (m : Option Bits) (xs : List T) → (MaskCovers m (length xs)) → masked m (map num (map parts xs)) ≡ map (primitive_slot parts) (option_masked m xs)
-slots_of_values {T} parts None xs h = plain_slots xs
-  where
-    plain_slots : (xs : List T) → map num (map parts xs) ≡ map (primitive_slot parts) (map Some xs)
-    plain_slots [] = refl
-    plain_slots (x ∷ xs) = ap (λ s. num (parts x) ∷ s) (plain_slots xs)
-slots_of_values {T} parts (Some b) xs h = by b.bits xs h
-  where
-    one : (bit : Bool) (x : T) → cond bit (num (parts x)) null ≡ primitive_slot parts (cond bit (Some x) None)
-    one true x = refl
-    one false x = refl
-
-    by : (bits : List Bool) (xs : List T) → length bits ≡ length xs → masked_by bits (map num (map parts xs)) ≡ map (primitive_slot parts) (zip2 (λ bit x. cond bit (Some x) None) bits xs)
-    by [] [] h = refl
-    by [] (x ∷ xs) h = absurd (omega (arith, h))
-    by (bit ∷ bits) [] h = refl
-    by (bit ∷ bits) (x ∷ xs) h =
-        ap (λ y. y ∷ masked_by bits (map num (map parts xs))) (one bit x) ∙ ap (λ s. primitive_slot parts (cond bit (Some x) None) ∷ s) (by bits xs (omega (arith, h)))

@@ -1,2 +1,5 @@
+pub mod FlatSlots
 pub mod Nodes
+pub mod NodesFall
 pub mod Refusals
+pub mod Storable

@@ -12,6 +12,10 @@ IsUnion (sparse_unions t o ts ls) = ⊤
 IsUnion (dense_unions t o ts os ls) = ⊤
 IsUnion _ = ⊥
 
+-- A union takes no mask, and under the mask each key that is valid names a value.
+abbrev pub TakesMask : Option Bits → Layout → Type 0
+TakesMask m l = (IsUnion l → ⊥) × KeysInRange m l
+
 -- a union takes none, and under the mask each key that is valid names a value
 abbrev pub MaskRefused : PolarsError → Option Bits → Layout → Type 0
 MaskRefused (InvalidOperation UnionValidity) m l = IsUnion l

@@ -1,4 +1,7 @@
 //! What no clause says: that each call succeeds with ample memory.
+ghost use Rattle.std.specs.Prelude.{IfOk};
+ghost use Rattle.arrow_layout.specs.OfValues.{IsOfValues};
+
 use crate::fixtures::{
     array_of_numbers, buffer_of, is_plain, masked, null_in_the_middle, offsets_from_two,
     three_texts,
@@ -7,7 +10,7 @@ use arrow_buffers::{Bitmap, Buffer, Offset, OffsetsBuffer};
 use arrow_bytes::{BinaryArray, FixedSizeBinaryArray, Utf8Array};
 use arrow_canon::{
     canonical_binary, canonical_boolean, canonical_fixed_size_binary, canonical_primitive,
-    canonical_utf8, normalized,
+    normalized,
 };
 use arrow_flat::{BooleanArray, DaysMs, NativeType, PrimitiveArray};
 use arrow_meaning::{ArrayRef, Node};
@@ -187,7 +190,7 @@ fn strings_move_up<O: Offset>(alloc: Global) -> Result<bool, Fail> {
 
 fn texts_move_up<O: Offset>(alloc: Global) -> Result<bool, Fail> {
     let array = three_texts::<O>(alloc)?;
-    let canonical = canonical_utf8(alloc, &array);
+    let canonical = canonical_binary(alloc, &array);
     drop(array);
     let texts = canonical?;
     let is_right = are_moved_texts(&texts);
@@ -203,8 +206,10 @@ fn strings_and_texts_move_up(rt: HostRuntime) -> Result<(), Fail> {
     Ok(())
 }
 
-/// The canonical array of an array of any layout, which is dropped.
-fn normal(alloc: Global, array: ArrayRef) -> Result<ArrayRef, Fail> {
+/// The canonical array of an array of values, which is dropped.
+fn normal(alloc: Global, array: ArrayRef) -> Result<ArrayRef, Fail>
+    requires { IsOfValues array }
+{
     let canonical = normalized(alloc, &array);
     drop(array);
     Ok(canonical?)
@@ -234,7 +239,9 @@ fn an_array_of_numbers_is_normalized(rt: HostRuntime) -> Result<(), Fail> {
 }
 
 /// The array of the texts `a`, null and `d`.
-fn array_of_texts(alloc: Global) -> Result<ArrayRef, Fail> {
+fn array_of_texts(alloc: Global) -> Result<ArrayRef, Fail>
+    ensures { IfOk result (λ a. IsOfValues a) }
+{
     let texts = three_texts::<i64>(alloc)?;
     Ok(ArrayRef::from_node(alloc, Node::LargeUtf8(texts))?)
 }

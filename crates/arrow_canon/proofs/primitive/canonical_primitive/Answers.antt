@@ -12,7 +12,7 @@ new-requires-clause-fits g c =
     let zero = g.T.NativeType.zero in
     let mask : c.in_ok-validity.validity ≡ plain_mask a.mask = c.in_ok-validity.ensures ∙ ap plain_mask c.validity.ensures in
     let values : c.in_ok-values-2.values ≡ values_or zero (slots a) = c.in_ok-values-2.ensures ∙ c.in_ok-values.ensures in
-    let fits : MaskHasLength (plain_mask a.mask) (length (values_or zero (slots a))) = canonical_fits zero a.mask a.values c.dtype.ensures.sound.fits in
+    let fits : MaskHasLength (plain_mask a.mask) (length (values_or zero (slots a))) = canonical_fits zero a.mask a.values c.invariant.ensures.fits in
     subst (λ m. MaskHasLength m (length c.in_ok-values-2.values)) (sym mask)
     (subst (λ vs. MaskHasLength (plain_mask a.mask) (length vs)) (sym values) fits)
 
@@ -25,4 +25,4 @@ returns g c =
     let values : c.in_ok-values-2.values ≡ values_or zero (slots a) = c.in_ok-values-2.ensures ∙ c.in_ok-values.ensures in
     ap (primitive_layout parts) c.new.ensures
     ∙ canonical_numbers parts zero g.T.NativeType.PRIMITIVE g.met.T.NativeType.zero_parts a (record { dtype = c.in_ok-dtype.dtype; values = c.in_ok-values-2.values; mask = c.in_ok-validity.validity })
-    c.dtype.ensures.sound (c.in_ok-dtype.ensures ∙ c.dtype.ensures.value) values mask
+    c.invariant.ensures (c.in_ok-dtype.ensures ∙ c.dtype.ensures) values mask

@@ -13,4 +13,4 @@ loop-i-preserved g c = (
 )
 
 pub returns : goal.returns
-returns g c = not_too_many c.args.array.now c.loop-i.i c.len-i-end.result c.loop-i.total c.dtype.ensures.sound.array.fits c.len-i-end.ensures c.loop-i-test.false c.loop-i.invariant.0 c.loop-i.invariant.1
+returns g c = not_too_many c.args.array.now c.loop-i.i c.len-i-end.result c.loop-i.total c.invariant.ensures.array.fits c.len-i-end.ensures c.loop-i-test.false c.loop-i.invariant.0 c.loop-i.invariant.1

@@ -6,12 +6,12 @@ pub returns-then-not-are_within_limit-clause-overflow : goal.returns-then-not-ar
 returns-then-not-are_within_limit-clause-overflow g c refused fits =
     let a = c.args.array.now in
     past_limit (slot_values a) (sym c.are_within_limit.ensures ∙ c.if-not-are_within_limit.true)
-    (fits_few g.T.ViewType.IS_TEXT a c.dtype.ensures.sound (omega (arith, c.len.ensures, c.len.type_inv)) fits)
+    (fits_few g.T.ViewType.IS_TEXT a c.invariant.ensures (omega (arith, c.len.ensures, c.len.type_inv)) fits)
 
 pub returns-clause-ok : goal.returns-clause-ok
 returns-clause-ok g c =
     let a = c.args.array.now in (
       c.in_ok-packed_array.ensures,
-      canonical_fits g.T.ViewType.IS_TEXT a c.dtype.ensures.sound (omega (arith, c.len.ensures, c.len.type_inv))
+      canonical_fits g.T.ViewType.IS_TEXT a c.invariant.ensures (omega (arith, c.len.ensures, c.len.type_inv))
           (within_limit (slot_values a) (sym c.are_within_limit.ensures ∙ c.if-not-are_within_limit.false)),
     )

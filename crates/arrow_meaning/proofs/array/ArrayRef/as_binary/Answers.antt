@@ -1,8 +1,10 @@
-use Rattle.std.proofs.Common.{◌≡◌, subst, false}
-use Rattle.std.specs.Prelude.{MatchOption}
-use Rattle.arrow_meaning.specs.Nodes.{HoldsBytes, binary_layout}
+use Rattle.std.proofs.Common.{false}
+use Rattle.arrow_bytes.specs.Binaries.{layout_in}
+use Rattle.arrow_meaning.specs.Nodes.{binary_layout}
+use Rattle.arrow_meaning.proofs.Variants.{found_as}
 use Rattle.arrow_meaning.proofs.array.ArrayRef.as_binary.Goals as goal
 
 pub returns : goal.returns
 returns g c =
-    subst (λ l. MatchOption c.binary_of.result (HoldsBytes g.O.Offset.IS_LARGE false l → ⊥) (λ a. binary_layout g.O.Offset.number a.now ≡ l)) c.node.ensures.same c.binary_of.ensures
+    found_as c.binary_of.result c.node.result.now c.args.self.now (layout_in false g.O.Offset.IS_LARGE) (λ a. binary_layout g.O.Offset.number a.now)
+    c.node.ensures.same c.node.ensures.kind c.binary_of.ensures

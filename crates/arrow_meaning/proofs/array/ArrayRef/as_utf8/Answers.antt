@@ -1,8 +1,10 @@
-use Rattle.std.proofs.Common.{◌≡◌, subst, true}
-use Rattle.std.specs.Prelude.{MatchOption}
-use Rattle.arrow_meaning.specs.Nodes.{HoldsBytes, binary_layout}
+use Rattle.std.proofs.Common.{true}
+use Rattle.arrow_bytes.specs.Binaries.{layout_in}
+use Rattle.arrow_meaning.specs.Nodes.{binary_layout}
+use Rattle.arrow_meaning.proofs.Variants.{found_as}
 use Rattle.arrow_meaning.proofs.array.ArrayRef.as_utf8.Goals as goal
 
 pub returns : goal.returns
 returns g c =
-    subst (λ l. MatchOption c.utf8_of.result (HoldsBytes g.O.Offset.IS_LARGE true l → ⊥) (λ a. binary_layout g.O.Offset.number a.now ≡ l)) c.node.ensures.same c.utf8_of.ensures
+    found_as c.utf8_of.result c.node.result.now c.args.self.now (layout_in true g.O.Offset.IS_LARGE) (λ a. binary_layout g.O.Offset.number a.now)
+    c.node.ensures.same c.node.ensures.kind c.utf8_of.ensures

@@ -1,10 +1,15 @@
-use Rattle.std.proofs.Common.{ap, ◌∙◌, subst}
+use Rattle.std.proofs.Common.{ap, subst, sym, ◌∙◌}
+use Rattle.arrow_layout.specs.Layouts.{length_of}
 use Rattle.arrow_layout.specs.Masks.{KeysInRange, with_mask}
-use Rattle.arrow_meaning.specs.Refusals.{IsUnion}
-use Rattle.arrow_meaning.proofs.Remask.{takes_mask}
+use Rattle.arrow_layout.specs.WellFormed.{WellFormed}
+use Rattle.arrow_layout.proofs.Remasked.{well_formed-with_mask}
+use Rattle.arrow_meaning.proofs.NodeParts.{mask_fits_led}
 use Rattle.arrow_meaning.proofs.array.ArrayRef.with_validity.Goals as goal
 
-pub returns-clause-ok : goal.returns-clause-ok
-returns-clause-ok c =
-    let takes = subst (λ l. (IsUnion l → ⊥) × KeysInRange c.args.validity l) c.node.ensures.same (takes_mask c.args.validity c.node.result.now) in
-    (c.in_ok-from_node.ensures ∙ c.in_ok-node.ensures ∙ ap (with_mask c.args.validity) c.node.ensures.same, takes.0, takes.1)
+pub from_sound-requires-clause-sound : goal.from_sound-requires-clause-sound
+from_sound-requires-clause-sound c =
+    let m = c.args.validity in
+    let l = c.args.self.now in
+    let e = c.set_validity.ensures.same ∙ ap (with_mask m) (c.in_ok-masked.ensures.same ∙ c.node-node.ensures.same) in
+    let keys = subst (KeysInRange m) c.node-node.ensures.same c.in_ok-check_mask.ensures.ok.1 in
+    subst WellFormed (sym e) (well_formed-with_mask m l c.node-node.ensures.sound (mask_fits_led m (length_of l) c.requires c.invariant.ensures) keys)

@@ -1,6 +1,0 @@
-use Rattle.arrow_types.specs.declared.datatype.PrimitiveType.TheVariants as primitive
-use Rattle.arrow_meaning.proofs.Held.{array_held}
-use Rattle.arrow_meaning.proofs.primitive.I64NodeNative.of_node.Goals as goal
-
-pub returns-in_default : goal.returns-in_default
-returns-in_default c = λ h. let a = array_held c.args.node.now primitive.Int64 c.know.ensures.form h in c.in_default.not-Int64 a.0 a.1
