@@ -6,26 +6,32 @@ pub use arrow_types::{GatherError, GrowError, MakeError, Mem, PolarsError, Polar
 
 /// Arrays, their builders and iterators, and what is common to them.
 pub mod array {
-    pub use arrow_bytes::{BinaryArray, FixedSizeBinaryArray, GenericBinaryArray, Utf8Array};
-    pub use arrow_flat::{
-        BooleanArray, BooleanIter, BytesIter, BytesValuesIter, DaysMs, DaysMsArray, IdxArr,
-        Int8Array, Int16Array, Int32Array, Int64Array, Int128Array, MonthDayNano,
-        MonthDayNanoArray, NativeType, PrimitiveArray, PrimitiveIter, PrimitiveValuesIter,
-        Splitable, TextsIter, TextsValuesIter, TryClone, UInt8Array, UInt16Array, UInt32Array,
-        UInt64Array,
+    pub use arrow_bytes::{
+        BinaryArray, FixedSizeBinaryArray, GenericBinaryArray, OffsetArray, Utf8Array,
     };
-    pub use arrow_meaning::{ArrayRef, Node, NodeNative, NodeOffset, NodeView, PrimitiveNode};
+    pub use arrow_flat::{
+        ArrayAccessor, ArrayIter, ArrayValuesIter, BooleanArray, BooleanIter, ByteString, DaysMs,
+        DaysMsArray, IdxArr, Int8Array, Int16Array, Int32Array, Int64Array, Int128Array,
+        MadeSlotsIter, MadeValuesIter, MakingAccessor, MonthDayNano, MonthDayNanoArray, NativeType,
+        PrimitiveArray, PrimitiveIter, PrimitiveValuesIter, Splitable, TryClone, UInt8Array,
+        UInt16Array, UInt32Array, UInt64Array,
+    };
+    pub use arrow_meaning::{
+        ArrayRef, FlatArray, KeyNode, MaskedArray, Node, NodeKey, NodeNative, NodeOffset, NodeView,
+        PrimitiveNode, TypedArray,
+    };
     pub use arrow_push::{
-        MaskedBuilder, MutableBooleanArray, MutablePrimitiveArray, TryExtend, TryExtendFromSelf,
-        TryPush,
+        MaskedBuilder, MutableBooleanArray, MutablePrimitiveArray, NullableBuilder, TryExtend,
+        TryExtendFromSelf, TryPush,
     };
     pub use arrow_push_bytes::{
         ExtendFromLengths, MutableBinaryArray, MutableBinaryValuesArray, MutableBinaryViewArray,
         MutableFixedSizeBinaryArray, MutableUtf8Array, MutableUtf8ValuesArray, NewSized,
     };
     pub use arrow_views::{
-        BinaryViewArray, BinaryViewArrayGeneric, Utf8ViewArray, View, ViewBytes, ViewIter,
-        ViewPacker, ViewStr, ViewType, ViewValuesIter,
+        BinaryValues, BinaryViewArray, BinaryViewArrayGeneric, BinaryViewIter,
+        BinaryViewValuesIter, Utf8ViewArray, Utf8ViewIter, Utf8ViewValuesIter, View, ViewBytes,
+        ViewPacker, ViewStr, ViewType, pack_values,
     };
 }
 
@@ -58,13 +64,13 @@ pub mod offset {
 pub mod canon {
     pub use arrow_canon::{
         canonical_binary, canonical_boolean, canonical_fixed_size_binary, canonical_primitive,
-        canonical_utf8, canonical_view, normalized,
+        canonical_view, normalized,
     };
 }
 
 /// Types and columns as JSON.
 pub mod json {
     pub use column_json::{column_json, column_text};
-    pub use column_read::{Column, ColumnData, JobError, LayoutError, array_of, column_of};
-    pub use type_json::{JsonError, type_json, type_of};
+    pub use column_read::{Column, ColumnData, LayoutError};
+    pub use type_json::{JsonError, type_from_json, type_json};
 }

@@ -4,7 +4,7 @@ use arrow_types::ArrowDataType;
 use serde_json::Value;
 use std::alloc::Global;
 use std::test::Fail;
-use type_json::{JsonError, type_json, type_of};
+use type_json::{JsonError, type_from_json, type_json};
 
 /// The value of a text; None where it is no JSON.
 fn value_of(alloc: Global, text: &str) -> Option<Value> {
@@ -32,7 +32,7 @@ fn is_spelled(alloc: Global, dtype: &ArrowDataType, text: &str) -> bool {
 fn is_again(alloc: Global, text: &str) -> bool {
     match value_of(alloc, text) {
         Some(value) => {
-            let dtype = type_of(alloc, &value);
+            let dtype = type_from_json(alloc, &value);
             drop(value);
             let is_right = match &dtype {
                 Ok(dtype) => is_spelled(alloc, dtype, text),
@@ -49,9 +49,9 @@ fn is_again(alloc: Global, text: &str) -> bool {
 fn is_refused(alloc: Global, text: &str) -> bool {
     match value_of(alloc, text) {
         Some(value) => {
-            let dtype = type_of(alloc, &value);
+            let dtype = type_from_json(alloc, &value);
             drop(value);
-            let is_right = matches!(&dtype, Err(JsonError::NoType));
+            let is_right = matches!(&dtype, Err(JsonError::BadValue));
             drop(dtype);
             is_right
         }

@@ -2,12 +2,12 @@
 use Rattle.std.proofs.Common.{◌≡◌, ◌^◌, cond, Bool, true, false, refl, ap, ◌∙◌, subst, Some, None}
 use Rattle.std.specs.Prelude.{option_map, option_and_then}
 use Rattle.type_json.specs.TypeJson.{IsSpelled}
-use Rattle.arrow_types.specs.Carried.{IsCarried}
 use Rattle.type_json.proofs.TypeBack.{type_back}
 use Rattle.arrow_layout.specs.Forms.{form_of, primitive_by, large_by}
 use Rattle.arrow_layout.specs.Layouts.{Layout, nulls, booleans, primitives, binaries, fixed_size_binaries, views, lists, fixed_size_lists, structs, sparse_unions, dense_unions, dictionaries, type_of}
 use Rattle.arrow_layout.specs.Plain.{IsPlain}
 use Rattle.arrow_layout.specs.WellFormed.{WellFormed}
+use Rattle.arrow_layout.proofs.Unique.{carried_of}
 use Rattle.column_grammar.specs.Laws.{HasJsonForm, IsWritable}
 use Rattle.column_grammar.specs.Reads.{offset_bits, data_by, data_in, column_of}
 use Rattle.column_grammar.specs.Writes.{booleans_value, primitives_value, binaries_value, fixed_size_binaries_value, views_value, data_value, column_value}
@@ -37,23 +37,8 @@ data_back (sparse_unions t o ts ls) h k plain = absurd (subst HasJsonForm h.0.of
 data_back (dense_unions t o ts os ls) h k plain = absurd (subst HasJsonForm h.0.of_form k)
 data_back (dictionaries t u m ks l) h k plain = absurd (subst HasJsonForm h.0.of_form k)
 
--- of each layout the type is carried
-carried : (l : Layout) → WellFormed l → IsCarried (type_of l)
-carried (nulls t n) h = h.carried
-carried (booleans t m vs) h = h.0.carried
-carried (primitives t m xs) h = h.0.carried
-carried (binaries t m os bs) h = h.0.carried
-carried (fixed_size_binaries t m k n bs) h = h.0.carried
-carried (views t m vs buffers) h = h.0.carried
-carried (lists t m os l) h = h.0.carried
-carried (fixed_size_lists t m k n l) h = h.0.carried
-carried (structs t m n ls) h = h.0.carried
-carried (sparse_unions t o ts ls) h = h.0.carried
-carried (dense_unions t o ts os ls) h = h.0.carried
-carried (dictionaries t u m ks l) h = h.0.carried
-
 pub spelled : (l : Layout) → IsWritable l → IsSpelled (type_of l)
-spelled l h = read_spelled (type_of l) (carried l h.well_formed) h.read
+spelled l h = read_spelled (type_of l) (carried_of l h.well_formed) h.read
 
 pub column_back : (l : Layout) → IsWritable l → IsPlain l → column_of (column_value l) ≡ Some (record { layout = l; slice = None })
 unfolding column_of

@@ -4,3 +4,4 @@ pub mod DataWritten
 pub mod NumbersBack
 pub mod Spelled
 pub mod TextBack
+pub mod Typed

@@ -5,6 +5,7 @@ use Rattle.std.specs.List.{AllByRecursion}
 use Rattle.serde_json.specs.Read.{read}
 use Rattle.arrow_buffers.specs.Bits.{Bits}
 use Rattle.arrow_types.specs.Carried.{IsBelow}
+use Rattle.arrow_types.specs.Depth.{depth_of}
 use Rattle.arrow_types.specs.declared.datatype.PrimitiveType.{PrimitiveType}
 use Rattle.arrow_flat.specs.Numbers.{IsNumber}
 use Rattle.arrow_flat.specs.Views.{View, IsView}
@@ -15,7 +16,7 @@ use Rattle.type_json.proofs.Written.{line_reads, line_utf8}
 use Rattle.arrow_layout.specs.Forms.{form_of, primitive_by, large_by}
 use Rattle.arrow_layout.specs.Layouts.{Layout, nulls, booleans, primitives, binaries, fixed_size_binaries, views, lists, fixed_size_lists, structs, sparse_unions, dense_unions, dictionaries, type_of}
 use Rattle.arrow_layout.specs.WellFormed.{WellFormed}
-use Rattle.column_grammar.specs.Laws.{HasJsonForm, IsWritable, HasTypeText}
+use Rattle.column_grammar.specs.Laws.{HasJsonForm, IsWritable}
 use Rattle.column_grammar.specs.Values.{bytes_value, integer_value, number_value}
 use Rattle.column_grammar.specs.Writes.{booleans_value, primitives_value, binaries_value, fixed_size_binaries_value, views_value, view_value, data_value, column_value, column_text}
 use Rattle.arrow_layout.specs.Plain.{IsPlain}
@@ -74,23 +75,22 @@ data_written (dictionaries t u m ks l) h k = absurd (subst HasJsonForm h.0.of_fo
 
 -- ---- the column
 
-column_written : (l : Layout) → IsWritable l → HasTypeText l → IsWrittenIn 100 (column_value l)
-column_written l h told =
+column_written : (l : Layout) → IsWritable l → depth_of (type_of l) ≤ 32 → IsWrittenIn 100 (column_value l)
+column_written l h deep =
     let part = type_depth (type_of l) (spelled l h) in
-    let deep = told.shallow in
     object2_written 99 (codes "data") (codes "type") (data_value l) (type_value (type_of l)) refl refl refl (deeper 3 99 _ (omega arith) (data_written l h.well_formed h.read))
-    (record { written = type_written (type_of l) (spelled l h) told.texts; shallow = omega (arith, part, deep) })
+    (record { written = type_written (type_of l) (spelled l h) h.is_type; shallow = omega (arith, part, deep) })
 
-pub text_reads : (l : Layout) → IsWritable l → HasTypeText l → read (column_text l) ≡ Some (column_value l)
+pub text_reads : (l : Layout) → IsWritable l → depth_of (type_of l) ≤ 32 → read (column_text l) ≡ Some (column_value l)
 unfolding column_text
-text_reads l h told = let w = column_written l h told in let deep = w.shallow in line_reads (column_value l) w.written (omega (arith, deep))
+text_reads l h shallow = let w = column_written l h shallow in let deep = w.shallow in line_reads (column_value l) w.written (omega (arith, deep))
 
-pub line_is_utf8 : (l : Layout) → IsWritable l → HasTypeText l → IsUtf8 (column_text l)
+pub line_is_utf8 : (l : Layout) → IsWritable l → depth_of (type_of l) ≤ 32 → IsUtf8 (column_text l)
 unfolding column_text
-line_is_utf8 l h told = line_utf8 (column_value l) (column_written l h told).written
+line_is_utf8 l h shallow = line_utf8 (column_value l) (column_written l h shallow).written
 
 -- a column without leading bits is told by its text
-pub text_tells : (a b : Layout) → IsWritable a → IsWritable b → HasTypeText a → HasTypeText b → IsPlain a → IsPlain b → column_text a ≡ column_text b → a ≡ b
+pub text_tells : (a b : Layout) → IsWritable a → IsWritable b → depth_of (type_of a) ≤ 32 → depth_of (type_of b) ≤ 32 → IsPlain a → IsPlain b → column_text a ≡ column_text b → a ≡ b
 text_tells a b ha hb ta tb pa pb e =
     let value : Some (column_value a) ≡ Some (column_value b) = sym (text_reads a ha ta) ∙ ap read e ∙ text_reads b hb tb in
     let same : column_value a ≡ column_value b = cc in

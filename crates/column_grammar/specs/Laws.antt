@@ -1,7 +1,6 @@
 -- Columns that their text tells whole.
-use Rattle.std.specs.Prelude.{◌≤◌, ⊤}
-use Rattle.arrow_types.specs.Depth.{depth_of}
-use Rattle.type_json.specs.TypeJson.{HasTexts}
+use Rattle.std.specs.Prelude.{⊤}
+use Rattle.type_json.specs.TypeJson.{IsType}
 use Rattle.arrow_layout.specs.Forms.{Form, booleans_of, primitives_of, binaries_of, fixed_size_binaries_of, views_of, form_of}
 use Rattle.arrow_layout.specs.Layouts.{Layout, type_of}
 use Rattle.arrow_layout.specs.WellFormed.{WellFormed}
@@ -15,12 +14,8 @@ HasJsonForm (fixed_size_binaries_of k) = ⊤
 HasJsonForm (views_of text) = ⊤
 HasJsonForm _ = ⊥
 
--- a well-formed column that has a text
+-- a well-formed column that has a text, and whose type is one: names and texts are UTF-8, and the keys of metadata ascend
 pub record IsWritable (l : Layout) : Type 0 where
   pub well_formed : WellFormed l
   pub read : HasJsonForm (form_of (type_of l))
-
--- the texts of its type are UTF-8, and its type is at most 32 deep
-pub record HasTypeText (l : Layout) : Type 0 where
-  pub texts : HasTexts (type_of l)
-  pub shallow : depth_of (type_of l) ≤ 32
+  pub is_type : IsType (type_of l)

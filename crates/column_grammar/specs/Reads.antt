@@ -1,5 +1,5 @@
 -- A column from a JSON value: `{"data":D,"type":T}`, with `"slice":[o,n]` beside them or not.
-use Rattle.std.specs.Prelude.{ℕ, ◌+◌, ◌/◌, List, [], take, drop, replicate, get_or, length, Bool, ◌&&◌, nat_le, nat_lt, ℤ, cond, if◌then◌else◌, Option, Some, None, is_some, option_map, option_and_then, codes}
+use Rattle.std.specs.Prelude.{ℕ, ◌+◌, ◌/◌, ◌≤◌, ⊤, List, [], take, drop, replicate, get_or, length, Bool, ◌&&◌, nat_le, nat_lt, ℤ, cond, if◌then◌else◌, Option, Some, None, is_some, option_map, option_and_then, codes}
 use Rattle.std.specs.Option.{option_zip}
 use Rattle.serde_json.specs.Data.{Data}
 use Rattle.serde_json.specs.Find.{as_str}
@@ -11,7 +11,9 @@ use Rattle.arrow_flat.specs.Views.{View, inline_view, long}
 use Rattle.type_json.specs.TypeJson.{type_in}
 use Rattle.type_json.specs.Values.{two_members, three_members, whole_in}
 use Rattle.arrow_layout.specs.Forms.{Form, booleans_of, primitives_of, binaries_of, fixed_size_binaries_of, views_of, form_of}
-use Rattle.arrow_layout.specs.Layouts.{Layout, booleans, primitives, binaries, fixed_size_binaries, views}
+use Rattle.arrow_layout.specs.Cut.{cut}
+use Rattle.arrow_layout.specs.Layouts.{Layout, booleans, primitives, binaries, fixed_size_binaries, views, length_of}
+use Rattle.arrow_layout.specs.WellFormed.{WellFormed}
 use Rattle.column_grammar.specs.Values.{bits_in_json, mask_in, bytes_in, signed_in, unsigned_in, number_in, triple_of, pair_of, items_in, list_in}
 
 -- ---- the data of each kind of layout
@@ -100,6 +102,25 @@ data_in t d = data_by (form_of t) t d
 pub record Column : Type 0 where
   pub layout : Layout
   pub slice : Option (ℕ × ℕ)
+
+-- the layout of the slots that a slice selects, or the whole
+abbrev pub sliced_layout : Layout → Option (ℕ × ℕ) → Layout
+sliced_layout l None = l
+sliced_layout l (Some s) = cut l s.0 s.1
+
+-- the slice ends within the layout
+abbrev pub IsWithin : Layout → Option (ℕ × ℕ) → Type 0
+IsWithin l None = ⊤
+IsWithin l (Some s) = s.0 + s.1 ≤ length_of l
+
+-- the layout of the slots that a column selects
+abbrev pub selected_layout : Column → Layout
+selected_layout c = sliced_layout c.layout c.slice
+
+-- The whole layout of a column is well formed, and not the sliced part alone, and its slice ends within it.
+pub record IsValidColumn (c : Column) : Type 0 where
+  pub well_formed : WellFormed c.layout
+  pub within : IsWithin c.layout c.slice
 
 abbrev pub slice_from : Data × Data → Option (ℕ × ℕ)
 slice_from d = option_zip (whole_in d.0) (whole_in d.1)

@@ -1,4 +1,5 @@
-//! The grammar of columns as JSON: what a value is, what is written for a column, and the laws of both.
+//! The grammar of columns as JSON: what a value is, what is written for a column, and the laws of
+//! both.
 #![tactic(auto)]
 
 pub mod laws;

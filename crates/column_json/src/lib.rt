@@ -2,12 +2,11 @@
 #![tactic(auto)]
 
 mod native;
-mod view_writer;
+mod view;
 mod writer;
 
 pub use native::JsonNative;
-pub use view_writer::view_json;
+pub use view::view_json;
 pub use writer::{
     binary_json, boolean_json, column_json, column_text, fixed_size_binary_json, primitive_json,
-    utf8_json,
 };

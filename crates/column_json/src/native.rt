@@ -9,10 +9,10 @@ use arrow_types::Mem;
 use serde_json::{Value, json};
 use std::alloc::Global;
 
-/// A native type whose values JSON holds: a whole number, 32 hexadecimal digits for 128 bits, or a list of two or three
-/// whole numbers.
+/// A native type whose values JSON holds: a whole number, 32 hexadecimal digits for 128 bits, or a
+/// list of two or three whole numbers.
 pub trait JsonNative: NativeType {
-    /// The JSON value of a value. It fails only for want of memory.
+    /// The JSON value of a value. It fails only where memory runs out.
     fn write(alloc: Global, value: Self) -> Mem<Value>
         ensures { IfOk result (λ v. view v ≡ number_value Self.PRIMITIVE (Self.parts value)) };
 }

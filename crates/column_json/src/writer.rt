@@ -5,15 +5,16 @@ ghost use Rattle.hex.specs.Hex.{encode_lower};
 ghost use Rattle.arrow_buffers.specs.Bits.{Bits};
 ghost use Rattle.arrow_flat.specs.Natives.{octets};
 ghost use Rattle.std.specs.Option.{option_copied};
+ghost use Rattle.arrow_layout.specs.OfValues.{IsOfValues};
 ghost use Rattle.arrow_meaning.specs.Nodes.{boolean_layout, primitive_layout, binary_layout, fixed_size_binary_layout, primitive_node_layout, layout_of};
 ghost use Rattle.column_grammar.specs.Values.{bit_char, bits_value, mask_value, bytes_value, integer_value, list_value, number_value};
 ghost use Rattle.column_grammar.specs.Writes.{primitives_value, binaries_value, data_value, column_value, column_text};
 
 use crate::native::JsonNative;
-use crate::view_writer::view_json;
+use crate::view::view_json;
 use arrow_buffers::{Bitmap, Offset, OffsetsBuffer};
-use arrow_bytes::{BinaryArray, FixedSizeBinaryArray, Utf8Array};
-use arrow_flat::{BooleanArray, PrimitiveArray};
+use arrow_bytes::{FixedSizeBinaryArray, OffsetArray};
+use arrow_flat::{BooleanArray, PrimitiveArray, ViewType};
 use arrow_meaning::{ArrayRef, Node, PrimitiveNode};
 use arrow_types::Mem;
 use serde_json::{Value, json};
@@ -74,7 +75,8 @@ pub fn boolean_json(alloc: Global, array: &BooleanArray) -> Mem<Value>
 }
 
 fn values_json<T: JsonNative>(alloc: Global, values: &[T]) -> Mem<Value>
-    ensures { IfOk result (λ v. view v ≡ list_value (map (number_value T.PRIMITIVE) (map T.parts values.now))) }
+    ensures { IfOk result (λ v. view v
+        ≡ list_value (map (number_value T.PRIMITIVE) (map T.parts values.now))) }
 {
     let mut list = Vec::with_capacity(alloc, values.len())?;
     for value in values {
@@ -84,7 +86,8 @@ fn values_json<T: JsonNative>(alloc: Global, values: &[T]) -> Mem<Value>
 }
 
 fn numbers_json<T: JsonNative>(alloc: Global, array: &PrimitiveArray<T>) -> Mem<Value>
-    ensures { IfOk result (λ v. view v ≡ primitives_value T.PRIMITIVE array.now.mask (map T.parts array.now.values)) }
+    ensures { IfOk result (λ v. view v
+        ≡ primitives_value T.PRIMITIVE array.now.mask (map T.parts array.now.values)) }
 {
     json!(in alloc; {
         "mask": mask_json(alloc, array.validity())?,
@@ -96,7 +99,7 @@ fn numbers_json<T: JsonNative>(alloc: Global, array: &PrimitiveArray<T>) -> Mem<
 pub fn primitive_json<T: JsonNative>(alloc: Global, array: &PrimitiveArray<T>) -> Mem<Value>
     ensures { IfOk result (λ v. view v ≡ data_value (primitive_layout T.parts array.now)) }
 {
-    array.dtype();
+    array.invariant();
     numbers_json(alloc, array)
 }
 
@@ -108,7 +111,8 @@ fn offset_json<O: Offset>(offset: O) -> Value
 }
 
 fn offsets_json<O: Offset>(alloc: Global, offsets: &OffsetsBuffer<O>) -> Mem<Value>
-    ensures { IfOk result (λ v. view v ≡ list_value (map integer_value (map O.number offsets.now))) }
+    ensures { IfOk result (λ v. view v
+        ≡ list_value (map integer_value (map O.number offsets.now))) }
 {
     let items = offsets.as_slice();
     let mut list = Vec::with_capacity(alloc, items.len())?;
@@ -124,7 +128,8 @@ fn pieces_json<O: Offset>(
     bytes: &[u8],
     mask: Option<&Bitmap>,
 ) -> Mem<Value>
-    ensures { IfOk result (λ v. view v ≡ binaries_value (option_copied mask.entry) (map O.number offsets.now) (octets bytes.now)) }
+    ensures { IfOk result (λ v. view v
+        ≡ binaries_value (option_copied mask.entry) (map O.number offsets.now) (octets bytes.now)) }
 {
     json!(in alloc; {
         "bytes": bytes_json(alloc, bytes)?,
@@ -133,23 +138,16 @@ fn pieces_json<O: Offset>(
     })
 }
 
-/// The data of byte strings: `{"bytes":hex,"mask":M,"offsets":[n..]}`, with all bytes and each offset as it stands.
-pub fn binary_json<O: Offset>(alloc: Global, array: &BinaryArray<O>) -> Mem<Value>
+/// The data of binary values or strings: `{"bytes":hex,"mask":M,"offsets":[n..]}`, with all bytes and
+/// each offset as it stands.
+pub fn binary_json<K: ViewType, O: Offset>(alloc: Global, array: &OffsetArray<K, O>) -> Mem<Value>
     ensures { IfOk result (λ v. view v ≡ data_value (binary_layout O.number array.now)) }
 {
     let bytes = array.values().as_slice();
     pieces_json(alloc, array.offsets(), bytes, array.validity())
 }
 
-/// The data of texts, as that of byte strings.
-pub fn utf8_json<O: Offset>(alloc: Global, array: &Utf8Array<O>) -> Mem<Value>
-    ensures { IfOk result (λ v. view v ≡ data_value (binary_layout O.number array.now)) }
-{
-    let bytes = array.values().as_slice();
-    pieces_json(alloc, array.offsets(), bytes, array.validity())
-}
-
-/// The data of byte strings of one size: `{"bytes":hex,"mask":M}`.
+/// The data of binary values of one size: `{"bytes":hex,"mask":M}`.
 pub fn fixed_size_binary_json(alloc: Global, array: &FixedSizeBinaryArray) -> Mem<Value>
     ensures { IfOk result (λ v. view v ≡ data_value (fixed_size_binary_layout array.now)) }
 {
@@ -179,14 +177,16 @@ fn numbers_node_json(alloc: Global, node: &PrimitiveNode) -> Mem<Value>
 }
 
 fn data_json(alloc: Global, array: &ArrayRef) -> Mem<Value>
+    requires { IsOfValues array.now }
     ensures { IfOk result (λ v. view v ≡ data_value array.now) }
 {
     let node = array.node();
     node_json(alloc, node)
 }
 
-/// The data of an array of any kind.
+/// The data of an array of values.
 fn node_json(alloc: Global, node: &Node) -> Mem<Value>
+    requires { IsOfValues (layout_of node.now) }
     ensures { IfOk result (λ v. view v ≡ data_value (layout_of node.now)) }
 {
     match node {
@@ -194,16 +194,25 @@ fn node_json(alloc: Global, node: &Node) -> Mem<Value>
         Node::Primitive(numbers) => numbers_node_json(alloc, numbers),
         Node::Binary(array) => binary_json(alloc, array),
         Node::LargeBinary(array) => binary_json(alloc, array),
-        Node::Utf8(array) => utf8_json(alloc, array),
-        Node::LargeUtf8(array) => utf8_json(alloc, array),
+        Node::Utf8(array) => binary_json(alloc, array),
+        Node::LargeUtf8(array) => binary_json(alloc, array),
         Node::FixedSizeBinary(array) => fixed_size_binary_json(alloc, array),
         Node::BinaryView(array) => view_json(alloc, array),
         Node::Utf8View(array) => view_json(alloc, array),
+        Node::Null { .. }
+        | Node::List { .. }
+        | Node::LargeList { .. }
+        | Node::Map { .. }
+        | Node::FixedSizeList { .. }
+        | Node::Struct { .. }
+        | Node::Union { .. }
+        | Node::Dictionary { .. } => unreachable!(),
     }
 }
 
-/// A column as a JSON value: `{"data":D,"type":T}`.
+/// A column of values as a JSON value: `{"data":D,"type":T}`.
 pub fn column_json(alloc: Global, array: &ArrayRef) -> Mem<Value>
+    requires { IsOfValues array.now }
     ensures { IfOk result (λ v. view v ≡ column_value array.now) }
 {
     json!(in alloc; {
@@ -212,8 +221,9 @@ pub fn column_json(alloc: Global, array: &ArrayRef) -> Mem<Value>
     })
 }
 
-/// The compact JSON text of a column, and a line feed.
+/// The compact JSON text of a column of values, and a line feed.
 pub fn column_text(alloc: Global, array: &ArrayRef) -> Mem<String>
+    requires { IsOfValues array.now }
     ensures { IfOk result (λ s. string_bytes s ≡ column_text array.now) }
 {
     let value = column_json(alloc, array)?;

@@ -1,4 +1,6 @@
 //! The buffers and offsets that the tests share, and values as text.
+ghost use Rattle.std.specs.Prelude.{IfOk};
+ghost use Rattle.arrow_layout.specs.OfValues.{IsOfValues};
 
 use arrow_buffers::{Bitmap, Buffer, Offset, OffsetError, Offsets, OffsetsBuffer};
 use arrow_flat::PrimitiveArray;
@@ -24,7 +26,9 @@ pub(crate) fn offsets_of<O: Offset>(
 }
 
 /// The days 1, null over 7, and -3.
-pub(crate) fn days(alloc: Global) -> Result<ArrayRef, Fail> {
+pub(crate) fn days(alloc: Global) -> Result<ArrayRef, Fail>
+    ensures { IfOk result (λ a. IsOfValues a) }
+{
     let values = buffer_of(alloc, &[1, 7, -3])?;
     let mask = Bitmap::from_bools(alloc, &[true, false, true])?;
     let days = PrimitiveArray::try_new(ArrowDataType::Date32, values, Some(mask))?;

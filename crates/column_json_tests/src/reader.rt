@@ -1,21 +1,23 @@
 //! Values that are no column, and the columns and arrays of those that are.
 ghost use Rattle.std.specs.Prelude.{IfSome};
 ghost use Rattle.arrow_types.specs.Seen.{seen};
+ghost use Rattle.arrow_layout.specs.OfValues.{IsOfValues};
 ghost use Rattle.column_read.specs.Parts.{HasKind};
 
 use crate::fixtures::is_value;
 use arrow_meaning::ArrayRef;
 use arrow_types::ArrowDataType;
 use column_json::column_json;
-use column_read::{Column, ColumnData, JobError, PrimitiveData, array_of, column_of};
+use column_read::{Column, ColumnData, PrimitiveData};
 use serde_json::Value;
 use std::alloc::Global;
 use std::test::Fail;
+use type_json::JsonError;
 
 /// Whether a text is JSON that is no column.
 fn is_refused(alloc: Global, text: &str) -> bool {
     match Value::from_str(alloc, text) {
-        Ok(value) => matches!(column_of(alloc, &value), Err(JobError::BadJob)),
+        Ok(value) => matches!(Column::from_json(alloc, &value), Err(JsonError::BadValue)),
         Err(_) => false,
     }
 }
@@ -46,7 +48,7 @@ fn column_in(alloc: Global, text: &str) -> Option<Column>
     ensures { IfSome result (λ c. HasKind (seen c.dtype) c.data) }
 {
     let value = Value::from_str(alloc, text).ok()?;
-    let column = column_of(alloc, &value);
+    let column = Column::from_json(alloc, &value);
     drop(value);
     match column {
         Ok(column) => Some(column),
@@ -54,11 +56,12 @@ fn column_in(alloc: Global, text: &str) -> Option<Column>
     }
 }
 
-/// The array of a column's parts, its slice left aside; none where they don't fit.
+/// The array of the slots that a column selects; none where its parts don't fit.
 fn array_in(alloc: Global, column: Column) -> Option<ArrayRef>
     requires { HasKind (seen column.dtype) column.data }
+    ensures { IfSome result (λ a. IsOfValues a) }
 {
-    match array_of(alloc, column.dtype, column.data) {
+    match column.into_array(alloc) {
         Ok(array) => Some(array),
         Err(_) => None,
     }
@@ -85,10 +88,10 @@ fn is_sliced(column: &Column) -> bool {
         && are_numbers(&column.data)
 }
 
-/// Whether an array has the slots 1, null and 3.
-fn has_numbers(array: &ArrayRef) -> bool {
+/// Whether an array has the slots null and 3.
+fn has_last_numbers(array: &ArrayRef) -> bool {
     match array.as_primitive::<i32>() {
-        Some(numbers) => numbers.iter().eq([Some(1), None, Some(3)].iter().copied()),
+        Some(numbers) => numbers.iter().eq([None, Some(3)].iter().copied()),
         None => false,
     }
 }
@@ -101,7 +104,7 @@ fn a_column_with_a_slice(rt: HostRuntime) -> Result<(), Fail> {
     let column = column_in(alloc, text).ok_or("no column")?;
     let is_read = is_sliced(&column);
     let array = array_in(alloc, column).ok_or("no array")?;
-    let is_made = has_numbers(&array);
+    let is_made = has_last_numbers(&array);
     drop(array);
     assert!(rt; is_read && is_made);
     Ok(())

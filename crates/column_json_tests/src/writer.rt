@@ -7,7 +7,7 @@ use arrow_types::{ArrowDataType, IntervalUnit, Mem};
 use arrow_views::{BinaryViewArray, View};
 use column_json::{
     JsonNative, binary_json, boolean_json, column_json, column_text, fixed_size_binary_json,
-    primitive_json, utf8_json, view_json,
+    primitive_json, view_json,
 };
 use std::alloc::Global;
 use std::test::Fail;
@@ -115,7 +115,7 @@ fn texts(alloc: Global) -> Result<Utf8Array<i64>, Fail> {
 fn texts_as_bytes(rt: HostRuntime) -> Result<(), Fail> {
     let alloc = rt.alloc();
     let array = texts(alloc)?;
-    let value = utf8_json(alloc, &array);
+    let value = binary_json(alloc, &array);
     drop(array);
     assert!(rt;
         is_value(

@@ -23,12 +23,12 @@ use Rattle.arrow_types.specs.declared.error.PolarsError.TheVariants.{ComputeErro
 use Rattle.arrow_types.specs.declared.error.Reason.{Reason}
 use Rattle.arrow_types.specs.declared.error.Reason.TheVariants.{MaskLength, WrongLogicalType, NotCarried, NotMultiple, OffsetPastValues, NotUtf8}
 use Rattle.arrow_flat.specs.Natives.{octets}
-use Rattle.arrow_flat.specs.Pieces.{pieces, AreTexts}
+use Rattle.arrow_flat.specs.Pieces.{pieces}
 use Rattle.arrow_flat.specs.Primitives.{MaskHasLength as MaskCovers}
 use Rattle.arrow_flat.specs.Refusals as flat
 use Rattle.arrow_bytes.specs.Binaries as bytes
 use Rattle.arrow_bytes.specs.FixedSizeBinaries as sized
-use Rattle.arrow_bytes.specs.Texts as texts
+use Rattle.arrow_layout.specs.Forms.{form_of, text_by}
 use Rattle.arrow_layout.specs.Layouts.{booleans, primitives, binaries, fixed_size_binaries}
 use Rattle.arrow_layout.specs.SlotsOf.{IsTextIf}
 use Rattle.arrow_layout.specs.WellFormed.{MaskFits, AscendTo, AreOffsetsWithin, WellFormed}
@@ -119,33 +119,29 @@ no_some (Some x) e h = cc
 pub bad_offsets : (t : TypeData) (m : Option Bits) (os : List ℤ) (bs : List ℕ) → IsSome (offsets_refusal os) → WellFormed (binaries t m os bs) → ⊥
 bad_offsets t m os bs h w = no_some (offsets_refusal os) (unrefused _ _ os w.1) h
 
--- ---- byte strings and texts
+-- ---- binary values and strings
 
-bytes_fit : (reason : Reason) (layout : PhysicalType) (t : ArrowDataType) (m : Option Bits) (os : List ℤ) (n : ℕ) → physical_of (seen t) ≡ Some layout → MaskFits m (pred (length os)) → end_of os ≤ n
-    → bytes.RefusedFor reason layout t m os n → ⊥
-bytes_fit OffsetPastValues layout t m os n stored w e h = h e
-bytes_fit MaskLength layout t m os n stored w e h = flat_fits MaskLength layout t m (pred (length os)) stored w h.1
-bytes_fit WrongLogicalType layout t m os n stored w e h = flat_fits WrongLogicalType layout t m (pred (length os)) stored w h.1
-bytes_fit _ layout t m os n stored w e h = h.1
+texts_if : (text large : Bool) (t : TypeData) (xs : List (List ℕ)) → physical_of t ≡ Some (bytes.layout_in text large) → AllByRecursion (IsTextIf (text_by (form_of t))) xs → bytes.AreTextsIf text xs
+texts_if false large t xs stored h = tt
+texts_if true large t xs stored h = subst (λ b. AllByRecursion (IsTextIf b) xs) (text_form t large stored) h
 
-pub bad_binaries : (e : PolarsError) (large : Bool) (t : ArrowDataType) (m : Option Bits) (os : List ℤ) (bs : List ℕ) → physical_of (seen t) ≡ Some (bytes.physical_binary large)
-    → bytes.Refused e (bytes.physical_binary large) t m os (length bs) → WellFormed (binaries (seen t) m os (octets bs)) → ⊥
-bad_binaries (ComputeError reason) large t m os bs stored h w =
-    bytes_fit reason (bytes.physical_binary large) t m os (length bs) stored w.0.mask (subst (λ n. end_of os ≤ n) (length-map bs (λ b. b % 256)) (ends_within _ _ os w.1)) h
-bad_binaries _ large t m os bs stored h w = h
+module _ {O : Type 0} (number : O → ℤ) (text large : Bool) (t : ArrowDataType) (m : Option Bits) (os : List O) (bs : List ℕ) where
+  abbrev parts : bytes.Binaries O
+  parts = record { dtype = t; offsets = os; values = bs; mask = m }
 
-texts_fit : (reason : Reason) (layout : PhysicalType) (t : ArrowDataType) (m : Option Bits) (os : List ℤ) (bs : List ℕ) → physical_of (seen t) ≡ Some layout → MaskFits m (pred (length os)) → end_of os ≤ length bs
-    → AreTexts (pieces (map to_nat os) bs) → texts.RefusedFor reason layout t m os bs → ⊥
-texts_fit NotUtf8 layout t m os bs stored w e k h = h.3 k
-texts_fit OffsetPastValues layout t m os bs stored w e k h = h e
-texts_fit MaskLength layout t m os bs stored w e k h = flat_fits MaskLength layout t m (pred (length os)) stored w h.1
-texts_fit WrongLogicalType layout t m os bs stored w e k h = flat_fits WrongLogicalType layout t m (pred (length os)) stored w h.1
-texts_fit _ layout t m os bs stored w e k h = h.1
+  module _ (stored : physical_of (seen t) ≡ Some (bytes.layout_in text large)) (w : MaskFits m (pred (length os))) (e : bytes.EndsWithin number os bs)
+      (k : bytes.AreTextsIf text (bytes.values_between number os bs)) where
+    parts_fit : (reason : Reason) → bytes.RefusedFor text large number reason parts → ⊥
+    parts_fit OffsetPastValues h = h e
+    parts_fit NotUtf8 h = h.3 k
+    parts_fit MaskLength h = flat_fits MaskLength (bytes.layout_in text large) t m (pred (length os)) stored w h.1
+    parts_fit WrongLogicalType h = flat_fits WrongLogicalType (bytes.layout_in text large) t m (pred (length os)) stored w h.1
+    parts_fit _ h = h.1
 
-pub bad_texts : (e : PolarsError) (large : Bool) (t : ArrowDataType) (m : Option Bits) (os : List ℤ) (bs : List ℕ) → physical_of (seen t) ≡ Some (bytes.physical_utf8 large) → octets bs ≡ bs
-    → texts.Refused e (bytes.physical_utf8 large) t m os bs → WellFormed (binaries (seen t) m os (octets bs)) → ⊥
-bad_texts (ComputeError reason) large t m os bs stored same h w =
-    let v : WellFormed (binaries (seen t) m os bs) = subst (λ xs. WellFormed (binaries (seen t) m os xs)) same w in
-    let k : AllByRecursion (IsTextIf true) (pieces (map to_nat os) bs) = subst (λ b. AllByRecursion (IsTextIf b) (pieces (map to_nat os) bs)) (text_form (seen t) large stored) v.4 in
-    texts_fit reason (bytes.physical_utf8 large) t m os bs stored v.0.mask (ends_within _ _ os v.1) k h
-bad_texts _ large t m os bs stored same h w = h
+  pub bad_binaries : (e : PolarsError) → physical_of (seen t) ≡ Some (bytes.layout_in text large) → octets bs ≡ bs → bytes.Refused text large number e parts
+      → WellFormed (binaries (seen t) m (map number os) (octets bs)) → ⊥
+  bad_binaries (ComputeError reason) stored same h w =
+      let v : WellFormed (binaries (seen t) m (map number os) bs) = subst (λ xs. WellFormed (binaries (seen t) m (map number os) xs)) same w in
+      parts_fit stored (subst (λ n. MaskFits m (pred n)) (length-map os number) v.0.mask) (ends_within _ _ (map number os) v.1)
+      (texts_if text large (seen t) (pieces (map to_nat (map number os)) bs) stored v.4) reason h
+  bad_binaries _ stored same h w = h

@@ -1,5 +1,5 @@
 -- Parts of views that are refused are not well formed.
-use Rattle.std.proofs.Common.{◌≡◌, ℕ, zero, suc, ◌<◌, List, [], ◌∷◌, length, map, get_or, ap, sym, subst, arith, Option, Some, None}
+use Rattle.std.proofs.Common.{◌≡◌, ℕ, zero, suc, ◌<◌, List, [], ◌∷◌, length, map, get_or, ap, sym, refl, subst, arith, Option, Some, None}
 use Rattle.std.specs.Prelude.{Bool, true, false}
 use Rattle.std.specs.List.{AllByRecursion}
 use Rattle.arrow_buffers.specs.Bits.{Bits}
@@ -7,12 +7,12 @@ use Rattle.arrow_types.specs.Seen.{seen}
 use Rattle.arrow_types.specs.Types.{physical_of}
 use Rattle.arrow_types.specs.declared.datatype.ArrowDataType.{ArrowDataType}
 use Rattle.arrow_types.specs.declared.error.PolarsError.{PolarsError}
-use Rattle.arrow_types.specs.declared.error.PolarsError.TheVariants.{ComputeError}
+use Rattle.arrow_types.specs.declared.error.PolarsError.TheVariants.{ComputeError, InvalidOperation, Unsupported, OutOfMemory}
 use Rattle.arrow_types.specs.declared.error.Reason.TheVariants.{MaskLength, WrongLogicalType, ViewRange, NotUtf8}
 use Rattle.arrow_flat.specs.Primitives.{MaskHasLength as MaskCovers}
 use Rattle.arrow_flat.specs.Pieces.{AreTexts}
 use Rattle.arrow_flat.specs.Views.{View}
-use Rattle.arrow_views.specs.ViewArrays.{physical_view, AreTextsIf, values_in, Refused}
+use Rattle.arrow_views.specs.ViewArrays.{physical_view, AreTextsIf, values_in, Refused, RefusedIn}
 use Rattle.arrow_layout.specs.Forms.{form_of, text_by}
 use Rattle.arrow_layout.specs.Layouts.{views}
 use Rattle.arrow_layout.specs.SlotsOf.{IsTextIf}
@@ -47,3 +47,11 @@ bad_views (ComputeError NotUtf8) text t m vs buffers stored h w =
     h.3 (texts text (values_in buffers vs) (subst (λ x. AllByRecursion (IsTextIf x) (values_in buffers vs)) same w.3))
 bad_views (ComputeError _) text t m vs buffers stored h w = h
 bad_views _ text t m vs buffers stored h w = h
+
+-- the same where memory might have run out
+pub bad_views_in : (e : PolarsError) (text : Bool) (t : ArrowDataType) (m : Option Bits) (vs : List View) (buffers : List (List ℕ)) → (e ≡ OutOfMemory → ⊥) → physical_of (seen t) ≡ Some (physical_view text)
+    → RefusedIn e text t m vs buffers → WellFormed (views (seen t) m vs buffers) → ⊥
+bad_views_in OutOfMemory text t m vs buffers other stored h w = other refl
+bad_views_in (ComputeError reason) text t m vs buffers other stored h w = bad_views (ComputeError reason) text t m vs buffers stored h w
+bad_views_in (InvalidOperation reason) text t m vs buffers other stored h w = bad_views (InvalidOperation reason) text t m vs buffers stored h w
+bad_views_in Unsupported text t m vs buffers other stored h w = bad_views Unsupported text t m vs buffers stored h w

@@ -2,7 +2,7 @@ pub mod BadParts
 pub mod BadViews
 pub mod Bytes16
 pub mod Loops
-pub mod Octets
+pub mod Hex
 pub mod SpelledTypes
 pub mod StoredData
 pub mod TextForms

@@ -1,7 +1,7 @@
 //! Reads a column as JSON, and writes the canonical layout of its slots.
 #![tactic(auto)]
 
-use jobs::{Outcome, StdSink, StdSource, outcome_text, run, status};
+use jobs::{StdSink, StdSource, message, run, status};
 use std::process::ExitCode;
 use std::{env, io};
 
@@ -16,8 +16,8 @@ fn main(rt: HostRuntime) -> ExitCode {
     let mut source = StdSource::new(rt.reader());
     let mut sink = StdSink::new(io::writer(&rt));
     let outcome = run(alloc, words.as_slice(), &mut source, &mut sink);
-    if outcome != Outcome::Done {
-        let _ = eprintln!(rt; "{}", outcome_text(&outcome));
+    if let Some(text) = message(&outcome) {
+        let _ = eprintln!(rt; "{text}");
     }
     ExitCode::from(status(&outcome))
 }

@@ -3,7 +3,7 @@
 
 use anyhow::Error;
 use arrow::PolarsResult;
-use arrow::array::{ArrayRef, Int32Array, MutablePrimitiveArray, Node, PrimitiveNode, TryExtend};
+use arrow::array::{FlatArray, Int32Array, MutablePrimitiveArray, TryExtend};
 use arrow::canon::normalized;
 use arrow::json::column_text;
 use std::alloc::Global;
@@ -21,7 +21,7 @@ fn numbers(alloc: Global) -> PolarsResult<Int32Array> {
 fn main(rt: HostRuntime) -> Result<(), Error> {
     let alloc = rt.alloc();
     let array = numbers(alloc)?;
-    let column = ArrayRef::from_node(alloc, Node::Primitive(PrimitiveNode::Int32(array)))?;
+    let column = array.boxed(alloc)?;
     if column.len() == 4 {
         let part = column.sliced(alloc, 1, 3)?;
         let canonical = normalized(alloc, &part)?;

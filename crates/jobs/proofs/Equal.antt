@@ -6,7 +6,7 @@ use Rattle.arrow_buffers.specs.Bits.{plain}
 use Rattle.arrow_types.specs.Depth.{depth_of}
 use Rattle.arrow_types.specs.TypeData.{TypeData}
 use Rattle.arrow_flat.specs.Slots.{Slot, is_valid}
-use Rattle.type_json.specs.TypeJson.{HasTexts}
+use Rattle.type_json.specs.TypeJson.{IsType}
 use Rattle.arrow_layout.specs.Forms.{Form, booleans_of, primitives_of, binaries_of, fixed_size_binaries_of, views_of, form_of}
 use Rattle.arrow_layout.specs.Layouts.{type_of}
 use Rattle.arrow_layout.specs.SlotsOf.{HasSlots}
@@ -17,7 +17,7 @@ use Rattle.arrow_layout.specs.Plain.{IsPlainMask, IsPlain}
 use Rattle.arrow_layout.proofs.ByForm.{canon_by, canon-form, type-canon}
 use Rattle.arrow_layout.proofs.CanonForms.{canon_well_formed}
 use Rattle.arrow_layout.proofs.Denotes.{denote_canon}
-use Rattle.column_grammar.specs.Laws.{HasJsonForm, IsWritable, HasTypeText}
+use Rattle.column_grammar.specs.Laws.{HasJsonForm, IsWritable}
 use Rattle.column_grammar.specs.Writes.{column_text}
 use Rattle.column_grammar.proofs.TextBack.{text_tells}
 use Rattle.jobs.specs.Laws.{IsTaken}
@@ -56,16 +56,17 @@ module _ (t : TypeData) (s : List Slot) (taken : IsTaken t) where
   writable h fits = record {
     well_formed = canon_well_formed t s taken.carried h fits small_canon;
     read = subst (λ u. HasJsonForm (form_of u)) (sym (type-canon t s)) taken.read;
+    is_type = subst IsType (sym (type-canon t s)) taken.is_type;
   }
 
-  type_text : HasTypeText (canon t s)
-  type_text = record { texts = subst HasTexts (sym (type-canon t s)) taken.texts; shallow = subst (λ u. depth_of u ≤ 32) (sym (type-canon t s)) taken.shallow }
+  shallow : depth_of (type_of (canon t s)) ≤ 32
+  shallow = subst (λ u. depth_of u ≤ 32) (sym (type-canon t s)) taken.shallow
 
 pub equal_texts : (t u : TypeData) (s r : List Slot) → IsTaken t → IsTaken u → HasSlots t s → HasSlots u r → Fits (canon t s) → Fits (canon u r)
     → column_text (canon t s) ≡ column_text (canon u r) → (t ≡ u) × (s ≡ r)
 equal_texts t u s r ht hu hs hr fs fr e =
     let same : canon t s ≡ canon u r =
-    text_tells (canon t s) (canon u r) (writable t s ht hs fs) (writable u r hu hr fr) (type_text t s ht) (type_text u r hu) (plain_canon t s ht) (plain_canon u r hu) e in (
+    text_tells (canon t s) (canon u r) (writable t s ht hs fs) (writable u r hu hr fr) (shallow t s ht) (shallow u r hu) (plain_canon t s ht) (plain_canon u r hu) e in (
       sym (type-canon t s) ∙ ap type_of same ∙ type-canon u r,
       sym (denote_canon t s ht.carried hs) ∙ ap denote same ∙ denote_canon u r hu.carried hr,
     )

@@ -1,5 +1,5 @@
 -- What the bytes that a run took say of those that the source told.
-use Rattle.std.proofs.Common.{◌≡◌, ◌<◌, arith, ℕ, ◌++◌, [], subst, append-nil, List, refl, ap, sym, ◌∙◌, Option, Some, None}
+use Rattle.std.proofs.Common.{◌≡◌, ◌<◌, arith, ℕ, ◌++◌, [], length, length-append, subst, append-nil, List, refl, ap, sym, ◌∙◌, Option, Some, None}
 use Rattle.std.specs.Io.KnownBytes.{Consumes, IsAtEnd}
 use Rattle.std.specs.Prelude.{IfSome}
 use Rattle.arrow_layout.specs.Layouts.{Layout, type_of}
@@ -7,8 +7,9 @@ use Rattle.arrow_types.specs.Depth.{depth_of}
 use Rattle.arrow_layout.specs.Fits.{Fits}
 use Rattle.serde_json.specs.Data.{Data}
 use Rattle.arrow_canon.specs.Canonical.{canonical_of}
-use Rattle.column_grammar.specs.Reads.{Column, column_of}
-use Rattle.jobs.specs.Job.{deepest, IsRead, IsColumn, IsJob, taken, IsValidColumn, Verdict, too_long, bad_text, bad_job, too_deep, bad_layout, overflows, a_job, IsOf, canon_text}
+use Rattle.column_grammar.specs.Reads.{Column, column_of, selected_layout, IsValidColumn}
+use Rattle.jobs.specs.Causes.{TookMore}
+use Rattle.jobs.specs.Job.{deepest, IsRead, IsColumn, IsJob, Verdict, too_long, bad_text, bad_job, too_deep, bad_layout, overflows, a_job, IsOf, canon_text}
 
 -- what was taken up to the end is all that there was
 all_taken : (left bytes rest : List ℕ) → left ≡ bytes ++ rest → rest ≡ [] → left ≡ bytes
@@ -61,7 +62,7 @@ deep_column bytes c h k =
     omega (arith, deep, k.shallow)
 
 pub one_layout : (bytes : List ℕ) (l m : Layout) → IsJob bytes l → IsJob bytes m → l ≡ m
-one_layout bytes l m h k = h.takes ∙ ap (λ c. taken c.layout c.slice) (one_column bytes h.column k.column h.read_as k.read_as) ∙ sym k.takes
+one_layout bytes l m h k = h.selects ∙ ap selected_layout (one_column bytes h.column k.column h.read_as k.read_as) ∙ sym k.selects
 
 -- a job is none of the causes
 job_sound : (bytes : List ℕ) (l : Layout) → IsJob bytes l → IsOf bad_layout bytes → ⊥
@@ -117,3 +118,9 @@ one_verdict bytes a_job too_deep h k = absurd (deep_column bytes h.1.column k h.
 one_verdict bytes a_job bad_layout h k = absurd (job_sound bytes h.0 h.1 k)
 one_verdict bytes a_job overflows h k = absurd (k.2 (subst (λ l. Fits (canonical_of l)) (one_layout bytes h.0 k.0 h.1 k.1) h.2))
 one_verdict bytes a_job a_job h k = refl
+
+-- more than n bytes taken are more than n fewer left
+pub took_more : (n : ℕ) (before after : Option (List ℕ)) (bytes : List ℕ) → Consumes before after bytes → n < length bytes → TookMore n before after
+took_more n None after bytes taken more = tt
+took_more n (Some left) None bytes taken more = absurd taken
+took_more n (Some left) (Some rest) bytes taken more = omega (arith, ap length taken, length-append bytes rest, more)

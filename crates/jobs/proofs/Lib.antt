@@ -2,4 +2,5 @@ pub mod Columns
 pub mod Depths
 pub mod Equal
 pub mod Jobs
+pub mod JobTexts
 pub mod Readings

@@ -1,15 +1,14 @@
 -- What the bytes of a job are, and why bytes are no job.
-use Rattle.std.specs.Prelude.{ℕ, ◌+◌, ◌≡◌, ◌<◌, ◌≤◌, List, length, if◌then◌else◌, Option, Some, None, ⊤}
+use Rattle.std.specs.Prelude.{ℕ, ◌≡◌, ◌<◌, ◌≤◌, List, length, if◌then◌else◌, Option, Some, None}
 use Rattle.std.specs.Str.{is_utf8}
 use Rattle.serde_json.specs.Data.{Data}
 use Rattle.serde_json.specs.Read.{read}
 use Rattle.arrow_types.specs.Depth.{depth_of}
-use Rattle.arrow_layout.specs.Cut.{cut}
-use Rattle.arrow_layout.specs.Layouts.{Layout, type_of, length_of}
-use Rattle.arrow_layout.specs.WellFormed.{WellFormed}
+use Rattle.arrow_layout.specs.Layouts.{Layout, type_of}
 use Rattle.arrow_layout.specs.Fits.{Fits}
 use Rattle.arrow_canon.specs.Canonical.{canonical_of}
-use Rattle.column_grammar.specs.Reads.{Column, column_of}
+use Rattle.type_json.specs.TypeJson.{IsType}
+use Rattle.column_grammar.specs.Reads.{Column, column_of, selected_layout, IsValidColumn}
 use Rattle.column_grammar.specs.Writes.{column_text}
 
 -- the most bytes that a job may have
@@ -36,27 +35,14 @@ pub record IsColumn (bytes : List ℕ) (c : Column) : Type 0 where
   pub is_column : column_of value ≡ Some c
   pub shallow : depth_of (type_of c.layout) ≤ deepest
 
--- the layout of the slots that a column takes
-abbrev pub taken : Layout → Option (ℕ × ℕ) → Layout
-taken l None = l
-taken l (Some s) = cut l s.0 s.1
-
--- the slice ends within the layout
-abbrev pub IsWithin : Layout → Option (ℕ × ℕ) → Type 0
-IsWithin l None = ⊤
-IsWithin l (Some s) = s.0 + s.1 ≤ length_of l
-
--- What a column of a job asks for: its whole layout is well formed, and not the sliced part alone.
-pub record IsValidColumn (c : Column) : Type 0 where
-  pub well_formed : WellFormed c.layout
-  pub within : IsWithin c.layout c.slice
-
--- the bytes are one whole job, which takes the slots of this layout
+-- The bytes are one whole job, which selects the slots of this layout. Its type is one: names and texts are UTF-8, the keys of
+-- metadata ascend, and ids have 32 bits.
 pub record IsJob (bytes : List ℕ) (l : Layout) : Type 0 where
   pub column : Column
   pub read_as : IsColumn bytes column
+  pub is_type : IsType (type_of column.layout)
   pub sound : IsValidColumn column
-  pub takes : l ≡ taken column.layout column.slice
+  pub selects : l ≡ selected_layout column
 
 -- What bytes are: a job, or no job for one of these causes.
 pub data Verdict : Type 0 where

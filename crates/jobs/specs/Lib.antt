@@ -5,3 +5,4 @@ pub mod Memory
 pub mod Outcomes
 pub mod Plain
 pub mod Refusals
+pub mod Standard

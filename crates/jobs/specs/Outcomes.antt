@@ -17,6 +17,11 @@ text_of ReadFault = codes "read fault"
 text_of WriteFault = codes "write fault"
 text_of OutOfMemory = codes "out of memory"
 
+-- what the program writes to standard error: nothing where the run was done
+abbrev pub message_of : Outcome → Option (List ℕ)
+message_of Done = None
+message_of outcome = Some (text_of outcome)
+
 abbrev pub status_of : Outcome → ℕ
 status_of Done = 0
 status_of Usage = 2

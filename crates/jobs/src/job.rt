@@ -1,12 +1,14 @@
 //! The top call: the words, the bytes read, and the bytes written.
-ghost use Rattle.std.specs.Prelude.{◌≡◌, ◌≢◌, ◌↔◌, ◌≤◌, ◌⊎◌, [], ◌∷◌, map, length, codes, string_bytes, ℕ, Some, None, IsTrue, IfOk, IfErr, IsSome, IfSome, IsErrOf};
+ghost use Rattle.std.specs.Prelude.{◌≡◌, ◌≢◌, ◌↔◌, ◌≤◌, ◌⊎◌, [], ◌∷◌, map, length, codes, string_bytes, ℕ, Some, None, IsTrue, IfOk, IfErr, IsSome, IfSome};
 ghost use Rattle.std.specs.Io.KnownBytes.{Appends};
 ghost use Rattle.serde_json.specs.View.{view};
 ghost use Rattle.arrow_types.specs.Seen.{seen};
 ghost use Rattle.arrow_layout.specs.Layouts.{Layout};
 ghost use Rattle.arrow_layout.specs.Fits.{Fits};
-ghost use Rattle.jobs.specs.Causes.{Rose, AppendsFront};
-ghost use Rattle.jobs.specs.Job.{limit, reading, IsColumn, IsJob, IsOf, canon_text, taken, IsWithin};
+ghost use Rattle.arrow_layout.specs.OfValues.{IsOfValues};
+ghost use Rattle.jobs.specs.Causes.{Rose, AppendsFront, TookMore};
+ghost use Rattle.type_json.specs.TypeJson.{IsType};
+ghost use Rattle.jobs.specs.Job.{limit, reading, IsColumn, IsJob, IsOf, canon_text};
 ghost use Rattle.arrow_canon.specs.Canonical.{canonical_of};
 ghost use Rattle.column_read.specs.Parts.{column_seen, HasKind};
 ghost use Rattle.jobs.specs.Outcomes.{verdict_of};
@@ -20,9 +22,10 @@ use arrow_canon::normalized;
 use arrow_meaning::ArrayRef;
 use arrow_types::GrowError;
 use column_json::column_text;
-use column_read::{Column, JobError, LayoutError, array_of, column_of};
+use column_read::{Column, LayoutError};
 use serde_json::Value;
 use std::alloc::{AllocError, Global};
+use type_json::JsonError;
 
 /// How deep the type of a column may be.
 const DEEPEST: usize = 32;
@@ -34,31 +37,6 @@ fn is_canon(words: &[String]) -> bool
     match words {
         [word] => word.as_str() == "canon",
         _ => false,
-    }
-}
-
-/// Why bytes are no text of a JSON value.
-#[derive(Drop)]
-enum TextError {
-    /// They are none that nests to depth 127.
-    BadText,
-    /// Memory ran out.
-    OutOfMemory,
-}
-
-/// The JSON value of the bytes. BadText exactly where they have none.
-#[tactic(auto, unfolding(crate::specs::Job::reading))]
-fn parse(alloc: Global, bytes: &[u8]) -> Result<Value, TextError>
-    ensures ok { IfOk result (λ v. reading bytes.now ≡ Some (view v)) }
-    ensures bad { IsErrOf result TextError.BadText → reading bytes.now ≡ None }
-{
-    match Value::from_slice(alloc, bytes) {
-        Ok(value) => Ok(value),
-        Err(error) => if error.is_memory() {
-            Err(TextError::OutOfMemory)
-        } else {
-            Err(TextError::BadText)
-        },
     }
 }
 
@@ -87,22 +65,36 @@ impl From<AllocError> for Refusal {
     }
 }
 
+/// The JSON value of the bytes. BadText exactly where they have none.
+#[tactic(auto, unfolding(crate::specs::Job::reading))]
+fn parse(alloc: Global, bytes: &[u8]) -> Result<Value, Refusal>
+    requires { length bytes.now ≤ limit }
+    ensures ok { IfOk result (λ v. reading bytes.now ≡ Some (view v)) }
+    ensures bad { IfErr result (λ e. IfSome (refusal_of e) (λ v. IsOf v bytes.now)) }
+{
+    match Value::from_slice(alloc, bytes) {
+        Ok(value) => Ok(value),
+        Err(error) => if error.is_memory() {
+            Err(Refusal::OutOfMemory)
+        } else {
+            Err(Refusal::BadText)
+        },
+    }
+}
+
 /// The column of the grammar that the bytes are. Each refusal comes exactly for its cause.
 fn column_in(alloc: Global, bytes: &[u8]) -> Result<Column, Refusal>
     requires { length bytes.now ≤ limit }
     ensures kind { IfOk result (λ c. HasKind (seen c.dtype) c.data) }
+    ensures is_type { IfOk result (λ c. IsType (seen c.dtype)) }
     ensures ok { IfOk result (λ c. IsColumn bytes.now (column_seen c)) }
     ensures bad { IfErr result (λ e. IfSome (refusal_of e) (λ v. IsOf v bytes.now)) }
 {
-    let value = match parse(alloc, bytes) {
-        Ok(value) => value,
-        Err(TextError::BadText) => return Err(Refusal::BadText),
-        Err(TextError::OutOfMemory) => return Err(Refusal::OutOfMemory),
-    };
-    let column = match column_of(alloc, &value) {
+    let value = parse(alloc, bytes)?;
+    let column = match Column::from_json(alloc, &value) {
         Ok(column) => column,
-        Err(JobError::BadJob) => return Err(Refusal::BadJob),
-        Err(JobError::OutOfMemory) => return Err(Refusal::OutOfMemory),
+        Err(JsonError::BadValue) => return Err(Refusal::BadJob),
+        Err(JsonError::OutOfMemory) => return Err(Refusal::OutOfMemory),
     };
     if !is_within(&column.dtype, DEEPEST) {
         return Err(Refusal::TooDeep);
@@ -110,42 +102,15 @@ fn column_in(alloc: Global, bytes: &[u8]) -> Result<Column, Refusal>
     Ok(column)
 }
 
-/// The slots that a slice takes of an array, or all. BadLayout exactly where the slice passes the array's length.
-fn taken(
-    alloc: Global,
-    array: ArrayRef,
-    slice: Option<(usize, usize)>,
-) -> Result<ArrayRef, LayoutError>
-    ensures ok { IfOk result (λ a. (a ≡ taken array slice) × IsWithin array slice) }
-    ensures bad { IsErrOf result LayoutError.BadLayout → IsWithin array slice → ⊥ }
-{
-    let Some((offset, length)) = slice else {
-        return Ok(array);
-    };
-    let len = array.len();
-    if offset > len || length > len - offset {
-        return Err(LayoutError::BadLayout);
-    }
-    Ok(array.sliced(alloc, offset, length)?)
-}
-
-/// The array of the slots that a job takes. Each refusal comes exactly for its cause.
+/// The array of the slots that a job selects. Each refusal comes exactly for its cause.
 fn array_in(alloc: Global, bytes: &[u8]) -> Result<ArrayRef, Refusal>
     requires { length bytes.now ≤ limit }
+    ensures of_values { IfOk result (λ a. IsOfValues a) }
     ensures ok { IfOk result (λ a. IsJob bytes.now a) }
     ensures bad { IfErr result (λ e. IfSome (refusal_of e) (λ v. IsOf v bytes.now)) }
 {
-    let column = match column_in(alloc, bytes) {
-        Ok(column) => column,
-        Err(refusal) => return Err(refusal),
-    };
-    let Column { dtype, data, slice } = column;
-    let array = match array_of(alloc, dtype, data) {
-        Ok(array) => array,
-        Err(LayoutError::BadLayout) => return Err(Refusal::BadLayout),
-        Err(LayoutError::OutOfMemory) => return Err(Refusal::OutOfMemory),
-    };
-    match taken(alloc, array, slice) {
+    let column = column_in(alloc, bytes)?;
+    match column.into_array(alloc) {
         Ok(array) => Ok(array),
         Err(LayoutError::BadLayout) => Err(Refusal::BadLayout),
         Err(LayoutError::OutOfMemory) => Err(Refusal::OutOfMemory),
@@ -155,13 +120,11 @@ fn array_in(alloc: Global, bytes: &[u8]) -> Result<ArrayRef, Refusal>
 /// What is written for the bytes of a job. Each refusal comes exactly for its cause.
 fn answer(alloc: Global, bytes: &[u8]) -> Result<String, Refusal>
     requires { length bytes.now ≤ limit }
-    ensures ok { IfOk result (λ text. (c : Layout) × (IsJob bytes.now c × Fits (canonical_of c)) × (string_bytes text ≡ canon_text c)) }
+    ensures ok { IfOk result (λ text. (c : Layout) × (IsJob bytes.now c × Fits (canonical_of c))
+        × (string_bytes text ≡ canon_text c)) }
     ensures bad { IfErr result (λ e. IfSome (refusal_of e) (λ v. IsOf v bytes.now)) }
 {
-    let array = match array_in(alloc, bytes) {
-        Ok(array) => array,
-        Err(refusal) => return Err(refusal),
-    };
+    let array = array_in(alloc, bytes)?;
     let canonical = match normalized(alloc, &array) {
         Ok(canonical) => canonical,
         Err(GrowError::Overflow) => return Err(Refusal::Overflow),
@@ -171,7 +134,8 @@ fn answer(alloc: Global, bytes: &[u8]) -> Result<String, Refusal>
     Ok(text)
 }
 
-/// Reads one column as JSON to the source's end, and writes the canonical layout of the slots that it takes as JSON.
+/// Reads one column as JSON to the source's end, and writes the canonical layout of the slots that
+/// it selects as JSON.
 ///
 /// The words are the arguments after the program's name.
 pub fn run<S: Source, K: Sink>(
@@ -180,28 +144,38 @@ pub fn run<S: Source, K: Sink>(
     source: &mut S,
     sink: &mut K,
 ) -> Outcome
-    // The bytes are one whole job, and the text of its canonical layout was written and nothing else.
+    // The bytes are one whole job, and exactly the text of its canonical layout was written.
     ensures done { result ≡ Outcome.Done → IfSome (S.left source.old) (λ bytes.
         (S.left source.new ≡ Some []) × ((c : Layout) × (IsJob bytes c × Fits (canonical_of c))
         × Appends (K.held sink.old) (K.held sink.new) (canon_text c))) }
     ensures usage { (result ≡ Outcome.Usage) ↔ (map string_bytes words.now ≢ codes "canon" ∷ []) }
     ensures unread { result ≡ Outcome.Usage → source.new ≡ source.old }
-    ensures read_fault { result ≡ Outcome.ReadFault → Rose (S.faults source.old) (S.faults source.new) }
-    ensures write_fault { result ≡ Outcome.WriteFault → Rose (K.faults sink.old) (K.faults sink.new) }
-    // Where a write failed, a front of the text is held more.
+    ensures read_fault { result ≡ Outcome.ReadFault
+        → Rose (S.faults source.old) (S.faults source.new) }
+    ensures write_fault { result ≡ Outcome.WriteFault
+        → Rose (K.faults sink.old) (K.faults sink.new) }
+    // Where a write failed, the sink has gained a prefix of the text.
     ensures part { result ≡ Outcome.WriteFault → IfSome (S.left source.old) (λ bytes.
         (S.left source.new ≡ Some []) × ((c : Layout) × (IsJob bytes c × Fits (canonical_of c))
         × AppendsFront (K.held sink.old) (K.held sink.new) (canon_text c))) }
-    // What the bytes are is told truly. The verdicts exclude one another, so each answer comes exactly for its own.
-    ensures verdict { IfSome (S.left source.old) (λ bytes. IfSome (verdict_of result) (λ v. IsOf v bytes)) }
+    // A verdict is true of the bytes. Verdicts exclude one another, so each answer comes exactly
+    // for its own.
+    ensures verdict { IfSome (S.left source.old) (λ bytes.
+        IfSome (verdict_of result) (λ v. IsOf v bytes)) }
+    // A source that has too much was read past the limit.
+    ensures past { result ≡ Outcome.TooLong
+        → TookMore limit (S.left source.old) (S.left source.new) }
     ensures first { (i : ℕ) → result ≡ Outcome.BadLayout i → i ≡ 0 }
     // They were read to their end, where there aren't too many.
-    ensures read { IfSome (S.left source.old) (λ bytes. IsSome (verdict_of result) → length bytes ≤ limit → S.left source.new ≡ Some []) }
+    ensures read { IfSome (S.left source.old) (λ bytes.
+        IsSome (verdict_of result) → length bytes ≤ limit → S.left source.new ≡ Some []) }
     // No other answer has written anything.
     ensures unwritten { result ≢ Outcome.Done → result ≢ Outcome.WriteFault → sink.new ≡ sink.old }
     // Without a fault a job is done, or memory ran out.
-    ensures complete { map string_bytes words.now ≡ codes "canon" ∷ [] → ¬ Rose (S.faults source.old) (S.faults source.new)
-        → ¬ Rose (K.faults sink.old) (K.faults sink.new) → IfSome (S.left source.old) (λ bytes. (c : Layout) → IsJob bytes c → Fits (canonical_of c)
+    ensures complete { map string_bytes words.now ≡ codes "canon" ∷ []
+        → ¬ Rose (S.faults source.old) (S.faults source.new)
+        → ¬ Rose (K.faults sink.old) (K.faults sink.new)
+        → IfSome (S.left source.old) (λ bytes. (c : Layout) → IsJob bytes c → Fits (canonical_of c)
         → (result ≡ Outcome.Done) ⊎ (result ≡ Outcome.OutOfMemory)) }
 {
     if !is_canon(words) {

@@ -12,7 +12,7 @@ mod standard;
 
 pub use job::run;
 pub use memory::{MemorySink, MemorySource};
-pub use outcome::{Outcome, outcome_text, status};
+pub use outcome::{Outcome, message, outcome_text, status};
 pub use outside::{Sink, SinkFailed, Source, SourceFailed};
 pub use plain::{PlainSink, PlainSource};
 pub use standard::{StdSink, StdSource};

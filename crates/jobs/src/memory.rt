@@ -9,7 +9,7 @@ use crate::outside::{Sink, SinkFailed, Source, SourceFailed};
 use arrow_types::Mem;
 use std::alloc::Global;
 
-/// Copies the bytes from `at` on into the buffer, at most `most` of them, and answers how many.
+/// Copies the bytes from `at` on into the buffer, at most `most` of them, and returns how many.
 pub(crate) fn give(bytes: &[u8], at: usize, most: usize, buf: &mut [u8]) -> usize
     requires within { at ≤ length bytes.now }
     requires some { 0 < most }
@@ -22,12 +22,14 @@ pub(crate) fn give(bytes: &[u8], at: usize, most: usize, buf: &mut [u8]) -> usiz
     count
 }
 
-/// Copies bytes to the buffer's place `len` and behind it, at most `most` of them, and answers how many.
+/// Copies bytes into the buffer from its place `len` on, at most `most` of them, and returns how
+/// many.
 pub(crate) fn put(buffer: &mut Vec<u8>, len: usize, most: usize, bytes: &[u8]) -> usize
     requires { len ≤ length buffer.old.items }
     ensures count { result ≡ min (min most (length bytes.now)) (length buffer.old.items - len) }
     ensures size { length buffer.new.items ≡ length buffer.old.items }
-    ensures put { take (len + result) buffer.new.items ≡ take len buffer.old.items ++ take result bytes.now }
+    ensures put { take (len + result) buffer.new.items
+        ≡ take len buffer.old.items ++ take result bytes.now }
 {
     let count = most.min(bytes.len()).min(buffer.len() - len);
     buffer[len..len + count].copy_from_slice(&bytes[..count]);
@@ -46,7 +48,8 @@ pub struct MemorySource {
     ghost gives: { 0 < piece },
 }
 
-/// By hand, so that each place where a value may end has one call to prove, and not the drop of every field.
+/// By hand, so that each place where a value may end has one call to prove, and not the drop of
+/// every field.
 impl Drop for MemorySource {
     fn drop(self) {
         let MemorySource {
@@ -63,7 +66,8 @@ impl Drop for MemorySource {
 impl MemorySource {
     ghost use Rattle.jobs.specs.Memory.{source_left, source_faults, source_calls, source_piece, source_fails};
 
-    /// Gives these bytes, at most `piece` at a call, and fails at the calls whose numbers, counted from 1, stand in `fails`.
+    /// Gives these bytes, at most `piece` at a call, and fails at the calls whose numbers, counted
+    /// from 1, stand in `fails`.
     pub fn new(alloc: Global, bytes: &[u8], piece: usize, fails: &[usize]) -> Mem<MemorySource>
         requires { 0 < piece }
         ensures left { IfOk result (λ s. source_left s ≡ bytes.now) }
@@ -94,14 +98,18 @@ impl Source for MemorySource {
 
     fn read(&mut self, buf: &mut [u8]) -> Result<usize, SourceFailed>
         ensures bound { ReadsAtMost result buf.new }
-        ensures bytes { ReadConsumes (Some (source_left self.old)) (Some (source_left self.new)) result buf.new }
+        ensures bytes { ReadConsumes (Some (source_left self.old)) (Some (source_left self.new))
+            result buf.new }
         ensures cause { HasCause (source_faults self.old) (source_faults self.new) result }
         // The number of a call stays at its last value once that is reached.
         ensures counts { source_calls self.new ≡ min (source_calls self.old + 1) (2 ^ 64 - 1) }
         // It fails exactly at the calls that were named, and counts each failure.
-        ensures fails { is_err result ≡ list_any (λ n. n == source_calls self.new) (source_fails self.old) }
-        ensures faults { OnErr result (source_faults self.new ≡ min (source_faults self.old + 1) (2 ^ 64 - 1)) }
-        ensures gives { IfOk result (λ n. n ≡ min (min (source_piece self.old) (length buf.old)) (length (source_left self.old))) }
+        ensures fails { is_err result
+            ≡ list_any (λ n. n == source_calls self.new) (source_fails self.old) }
+        ensures faults { OnErr result
+            (source_faults self.new ≡ min (source_faults self.old + 1) (2 ^ 64 - 1)) }
+        ensures gives { IfOk result (λ n. n
+            ≡ min (min (source_piece self.old) (length buf.old)) (length (source_left self.old))) }
         ensures same { OnOk result (source_faults self.new ≡ source_faults self.old) }
         ensures pieces { source_piece self.new ≡ source_piece self.old }
         ensures named { source_fails self.new ≡ source_fails self.old }
@@ -129,7 +137,8 @@ pub struct MemorySink {
     ghost takes: { 0 < piece },
 }
 
-/// By hand, so that each place where a value may end has one call to prove, and not the drop of every field.
+/// By hand, so that each place where a value may end has one call to prove, and not the drop of
+/// every field.
 impl Drop for MemorySink {
     fn drop(self) {
         let MemorySink {
@@ -146,7 +155,8 @@ impl Drop for MemorySink {
 impl MemorySink {
     ghost use Rattle.jobs.specs.Memory.{sink_held, sink_faults, sink_calls, sink_piece, sink_fails, sink_room};
 
-    /// Takes at most `piece` bytes at a call, `room` in all, and fails at the calls whose numbers, counted from 1, stand in `fails`.
+    /// Takes at most `piece` bytes at a call, `room` in all, and fails at the calls whose numbers,
+    /// counted from 1, stand in `fails`.
     ///
     /// The memory for all the room is taken here.
     pub fn new(alloc: Global, room: usize, piece: usize, fails: &[usize]) -> Mem<MemorySink>
@@ -187,16 +197,23 @@ impl Sink for MemorySink {
 
     fn write(&mut self, bytes: &[u8]) -> Result<usize, SinkFailed>
         ensures some { TakesSome result bytes.now }
-        ensures bytes { WriteAppends (Some (sink_held self.old)) (Some (sink_held self.new)) result bytes.now }
+        ensures bytes { WriteAppends (Some (sink_held self.old)) (Some (sink_held self.new))
+            result bytes.now }
         ensures cause { HasCause (sink_faults self.old) (sink_faults self.new) result }
         // The number of a call stays at its last value once that is reached.
         ensures counts { sink_calls self.new ≡ min (sink_calls self.old + 1) (2 ^ 64 - 1) }
-        // It fails exactly at the calls that were named and where no room is left for a piece, and counts each failure.
-        ensures fails { is_err result ≡ (list_any (λ n. n == sink_calls self.new) (sink_fails self.old)
+        // It fails exactly at the calls that were named and where no room is left for a piece, and
+        // counts each failure.
+        ensures fails { is_err result
+            ≡ (list_any (λ n. n == sink_calls self.new) (sink_fails self.old)
             || ((sink_room self.old == 0) && not (length bytes.now == 0))) }
-        ensures faults { OnErr result (sink_faults self.new ≡ min (sink_faults self.old + 1) (2 ^ 64 - 1)) }
-        ensures takes { IfOk result (λ n. n ≡ min (min (sink_piece self.old) (length bytes.now)) (sink_room self.old)) }
+        ensures faults { OnErr result
+            (sink_faults self.new ≡ min (sink_faults self.old + 1) (2 ^ 64 - 1)) }
+        ensures takes { IfOk result (λ n. n
+            ≡ min (min (sink_piece self.old) (length bytes.now)) (sink_room self.old)) }
         ensures same { OnOk result (sink_faults self.new ≡ sink_faults self.old) }
+        ensures room { sink_room self.new + length (sink_held self.new)
+            ≡ sink_room self.old + length (sink_held self.old) }
         ensures pieces { sink_piece self.new ≡ sink_piece self.old }
         ensures named { sink_fails self.new ≡ sink_fails self.old }
     {

@@ -1,5 +1,5 @@
 //! How a run ends.
-ghost use Rattle.std.specs.Prelude.{◌≡◌};
+ghost use Rattle.std.specs.Prelude.{◌≡◌, option_map};
 
 /// How a run ended, and what the program tells of it.
 #[derive(Clone, Copy, Debug, PartialEq, Eq)]
@@ -28,9 +28,9 @@ pub enum Outcome {
     OutOfMemory,
 }
 
-ghost use Rattle.jobs.specs.Outcomes.{text_of, status_of};
+ghost use Rattle.jobs.specs.Outcomes.{text_of, message_of, status_of};
 
-/// What the program writes to standard error, before a line feed. Takes no memory.
+/// The text of an outcome. Takes no memory.
 pub fn outcome_text(outcome: &Outcome) -> &str
     ensures { result.now ≡ text_of outcome.now }
 {
@@ -46,6 +46,17 @@ pub fn outcome_text(outcome: &Outcome) -> &str
         Outcome::ReadFault => "read fault",
         Outcome::WriteFault => "write fault",
         Outcome::OutOfMemory => "out of memory",
+    }
+}
+
+/// What the program writes to standard error, before a line feed: nothing where the run was done.
+/// Takes no memory.
+pub fn message(outcome: &Outcome) -> Option<&str>
+    ensures { option_map (λ text. text.now) result ≡ message_of outcome.now }
+{
+    match outcome {
+        Outcome::Done => None,
+        _ => Some(outcome_text(outcome)),
     }
 }
 

@@ -2,7 +2,7 @@
 ghost use Rattle.std.specs.Prelude.{◌≡◌, ◌≤◌, ◌<◌, ℕ, List, Option, length, IfOk, IfSome, OnOk, OnErr, IsErrOf};
 ghost use Rattle.std.specs.Io.{ReadsAtMost};
 ghost use Rattle.std.specs.Io.KnownBytes.{ReadConsumes, WriteAppends, Consumes, Appends, IsAtEnd};
-ghost use Rattle.jobs.specs.Causes.{Rose, HasCause, TakesSome, AppendsFront};
+ghost use Rattle.jobs.specs.Causes.{Rose, HasCause, TakesSome, AppendsFront, TookMore};
 ghost use Rattle.jobs.specs.Job.{limit};
 ghost use Rattle.jobs.specs.declared.outside.ReadError.TheVariants.{OutOfMemory};
 
@@ -27,7 +27,7 @@ pub trait Source {
     /// How often it has failed.
     ghost faults: { Self → ℕ };
 
-    /// Moves the next bytes into the buffer and answers how many: none of a buffer with room only at the end.
+    /// Reads up to `buf.len()` bytes and returns how many; 0 only at the end or into an empty buffer.
     ///
     /// A call that fails leaves the bytes, and counts a fault.
     fn read(&mut self, buf: &mut [u8]) -> Result<usize, SourceFailed>
@@ -44,7 +44,7 @@ pub trait Sink {
     /// How often it has failed.
     ghost faults: { Self → ℕ };
 
-    /// Takes bytes from the front of a piece and answers how many: some of a piece that isn't empty.
+    /// Writes a prefix of `bytes` and returns its length; at least 1 unless `bytes` is empty.
     ///
     /// A call that fails takes none, and counts a fault.
     fn write(&mut self, bytes: &[u8]) -> Result<usize, SinkFailed>
@@ -72,12 +72,18 @@ impl From<AllocError> for ReadError {
     }
 }
 
-/// Reads a source to its end. TooLong only where it gave more than `LIMIT` bytes.
+/// Reads a source to its end. TooLong only where it has more than `LIMIT` bytes, of which more than
+/// `LIMIT` are then taken.
 pub fn read_all<S: Source>(alloc: Global, source: &mut S) -> Result<Vec<u8>, ReadError>
-    ensures whole { IfOk result (λ v. Consumes (S.left source.old) (S.left source.new) v.items × IsAtEnd (S.left source.new)) }
+    ensures whole { IfOk result (λ v. Consumes (S.left source.old) (S.left source.new) v.items
+        × IsAtEnd (S.left source.new)) }
     ensures short { IfOk result (λ v. length v.items ≤ limit) }
-    ensures long { IsErrOf result ReadError.TooLong → IfSome (S.left source.old) (λ bytes. limit < length bytes) }
-    ensures fault { IsErrOf result ReadError.Fault → Rose (S.faults source.old) (S.faults source.new) }
+    ensures long { IsErrOf result ReadError.TooLong
+        → IfSome (S.left source.old) (λ bytes. limit < length bytes) }
+    ensures past { IsErrOf result ReadError.TooLong
+        → TookMore limit (S.left source.old) (S.left source.new) }
+    ensures fault { IsErrOf result ReadError.Fault
+        → Rose (S.faults source.old) (S.faults source.new) }
 {
     let mut bytes = Vec::new(alloc);
     let mut piece = [0; 4096];

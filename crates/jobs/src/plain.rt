@@ -14,7 +14,8 @@ pub struct PlainSource {
     ghost within: { at ≤ length bytes.items },
 }
 
-/// By hand, so that each place where a value may end has one call to prove, and not the drop of every field.
+/// By hand, so that each place where a value may end has one call to prove, and not the drop of
+/// every field.
 impl Drop for PlainSource {
     fn drop(self) {
         let PlainSource { bytes: _, at: _ } = self;
@@ -41,10 +42,12 @@ impl Source for PlainSource {
 
     fn read(&mut self, buf: &mut [u8]) -> Result<usize, SourceFailed>
         ensures bound { ReadsAtMost result buf.new }
-        ensures bytes { ReadConsumes (Some (plain_left self.old)) (Some (plain_left self.new)) result buf.new }
+        ensures bytes { ReadConsumes (Some (plain_left self.old)) (Some (plain_left self.new))
+            result buf.new }
         ensures cause { HasCause 0 0 result }
         ensures always { IsOk result }
-        ensures gives { IfOk result (λ n. n ≡ min (length buf.old) (length (plain_left self.old))) }
+        ensures gives { IfOk result (λ n. n
+            ≡ min (length buf.old) (length (plain_left self.old))) }
     {
         let count = give(self.bytes.as_slice(), self.at, usize::MAX, buf);
         self.at += count;
@@ -60,7 +63,8 @@ pub struct PlainSink {
     ghost within: { len ≤ length buffer.items },
 }
 
-/// By hand, so that each place where a value may end has one call to prove, and not the drop of every field.
+/// By hand, so that each place where a value may end has one call to prove, and not the drop of
+/// every field.
 impl Drop for PlainSink {
     fn drop(self) {
         let PlainSink {
@@ -104,12 +108,17 @@ impl Sink for PlainSink {
 
     fn write(&mut self, bytes: &[u8]) -> Result<usize, SinkFailed>
         ensures some { TakesSome result bytes.now }
-        ensures bytes { WriteAppends (Some (plain_held self.old)) (Some (plain_held self.new)) result bytes.now }
+        ensures bytes { WriteAppends (Some (plain_held self.old)) (Some (plain_held self.new))
+            result bytes.now }
         ensures cause { HasCause (plain_faults self.old) (plain_faults self.new) result }
         // It fails exactly where no room is left for a piece, and counts each failure.
-        ensures fails { is_err result ≡ ((plain_room self.old == 0) && not (length bytes.now == 0)) }
-        ensures faults { OnErr result (plain_faults self.new ≡ min (plain_faults self.old + 1) (2 ^ 64 - 1)) }
+        ensures fails { is_err result
+            ≡ ((plain_room self.old == 0) && not (length bytes.now == 0)) }
+        ensures faults { OnErr result
+            (plain_faults self.new ≡ min (plain_faults self.old + 1) (2 ^ 64 - 1)) }
         ensures same { OnOk result (plain_faults self.new ≡ plain_faults self.old) }
+        ensures room { plain_room self.new + length (plain_held self.new)
+            ≡ plain_room self.old + length (plain_held self.old) }
         // A longer piece is taken in part.
         ensures takes { IfOk result (λ n. n ≡ min (length bytes.now) (plain_room self.old)) }
     {

@@ -1,9 +1,11 @@
-//! Standard input and output, or any reader and writer of std. They tell nothing of what they hold.
-ghost use Rattle.std.specs.Prelude.{None};
+//! Standard input and output, or any reader and writer of std. They report nothing of what they
+//! hold.
+ghost use Rattle.std.specs.Prelude.{◌≡◌, None};
 
 use crate::outside::{Sink, SinkFailed, Source, SourceFailed};
 use std::io::{Read, Write};
 
+/// Standard input, or any reader of std.
 #[derive(Drop)]
 pub struct StdSource<R> {
     inner: R,
@@ -11,15 +13,22 @@ pub struct StdSource<R> {
 }
 
 impl<R: Read> StdSource<R> {
-    pub fn new(inner: R) -> StdSource<R> {
+    ghost use Rattle.jobs.specs.Standard.{std_source_faults};
+
+    /// Reads from this reader.
+    pub fn new(inner: R) -> StdSource<R>
+        ensures { std_source_faults result ≡ 0 }
+    {
         StdSource { inner, faults: 0 }
     }
 }
 
 impl<R: Read> Source for StdSource<R> {
+    ghost use Rattle.jobs.specs.Standard.{std_source_faults};
+
     ghost left = { λ _. None };
 
-    ghost faults = { λ s. s.faults };
+    ghost faults = { std_source_faults };
 
     fn read(&mut self, buf: &mut [u8]) -> Result<usize, SourceFailed> {
         match self.inner.read(buf) {
@@ -32,6 +41,7 @@ impl<R: Read> Source for StdSource<R> {
     }
 }
 
+/// Standard output, or any writer of std.
 #[derive(Drop)]
 pub struct StdSink<W> {
     inner: W,
@@ -39,15 +49,22 @@ pub struct StdSink<W> {
 }
 
 impl<W: Write> StdSink<W> {
-    pub fn new(inner: W) -> StdSink<W> {
+    ghost use Rattle.jobs.specs.Standard.{std_sink_faults};
+
+    /// Writes to this writer, and flushes it after each write.
+    pub fn new(inner: W) -> StdSink<W>
+        ensures { std_sink_faults result ≡ 0 }
+    {
         StdSink { inner, faults: 0 }
     }
 }
 
 impl<W: Write> Sink for StdSink<W> {
+    ghost use Rattle.jobs.specs.Standard.{std_sink_faults};
+
     ghost held = { λ _. None };
 
-    ghost faults = { λ s. s.faults };
+    ghost faults = { std_sink_faults };
 
     fn write(&mut self, bytes: &[u8]) -> Result<usize, SinkFailed> {
         if bytes.is_empty() {

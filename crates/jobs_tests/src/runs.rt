@@ -364,7 +364,8 @@ fn each_flat_layout_has_its_outcome(rt: HostRuntime) {
     assert!(rt; wrong.is_none(), "{wrong:?}");
 }
 
-/// How `canon` of these bytes ends over sources and sinks that don't fail. What the sink holds is appended.
+/// How `canon` of these bytes ends over sources and sinks that don't fail. What the sink holds is
+/// appended.
 fn plain_run(alloc: Global, input: Vec<u8>, room: usize, held: &mut Vec<u8>) -> Mem<Outcome> {
     let mut source = PlainSource::new(input);
     let outcome = plain_run_from(alloc, &mut source, room, held);
@@ -387,7 +388,8 @@ fn plain_run_from(
     outcome
 }
 
-/// How `canon` of these bytes ends where there is room for the answer, and whether it writes nothing.
+/// How `canon` of these bytes ends where there is room for the answer, and whether it writes
+/// nothing.
 fn ends(alloc: Global, input: Vec<u8>) -> Mem<(Outcome, bool)> {
     let mut held = Vec::new(alloc);
     let outcome = plain_run(alloc, input, 1024, &mut held);
@@ -453,7 +455,8 @@ fn the_depth_of_a_type_has_a_limit(rt: HostRuntime) -> Mem<()> {
     Ok(())
 }
 
-/// How `canon` ends over a sink of this room, and whether it fills the room with a prefix of the answer.
+/// How `canon` ends over a sink of this room, and whether it fills the room with a prefix of the
+/// answer.
 fn fills(alloc: Global, room: usize) -> Mem<(Outcome, bool)> {
     let input = NULL_IN_THE_MIDDLE.as_bytes().to_vec(alloc)?;
     let mut held = Vec::new(alloc);

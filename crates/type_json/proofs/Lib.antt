@@ -1,12 +1,16 @@
+pub mod Inserted
 pub mod MapBack
 pub mod NoFloats
 pub mod Parts
 pub mod ReadBack
+pub mod Seen
 pub mod Sound
+pub mod Strings
 pub mod Told
 pub mod Trailing
 pub mod TypeBack
 pub mod TypeDepth
+pub mod TypeRead
 pub mod TypeWritten
 pub mod Utf8
 pub mod Walks

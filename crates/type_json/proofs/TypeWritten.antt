@@ -18,7 +18,7 @@ use Rattle.arrow_types.specs.declared.datatype.TimeUnit.{TimeUnit}
 use Rattle.arrow_types.specs.declared.datatype.TimeUnit.TheVariants as time
 use Rattle.arrow_types.specs.declared.datatype.UnionMode.{UnionMode}
 use Rattle.arrow_types.specs.declared.datatype.UnionMode.TheVariants as mode
-use Rattle.type_json.specs.TypeJson.{integer_name, unit_name, interval_name, mode_name, text_value, whole_value, ids_value, metadata_value, two, three, four, type_value, field_value, fields_value, AreInt32, IsMap, IsSpelled, FieldIsSpelled, AreSpelled, IsText, AreTextEntries, EntriesAreTexts, HasTexts, FieldHasTexts, HaveTexts}
+use Rattle.type_json.specs.TypeJson.{integer_name, unit_name, interval_name, mode_name, text_value, whole_value, ids_value, metadata_value, two, three, four, type_value, field_value, fields_value, AreInt32, IsMap, IsSpelled, FieldIsSpelled, AreSpelled, IsText, AreTextEntries, EntriesAreTexts, IsType, IsField, AreFields}
 use Rattle.type_json.proofs.MapBack.{AreSorted, members_from, above, with_entries_sorted}
 use Rattle.type_json.specs.Texts.{snoc, AreBelow}
 use Rattle.type_json.proofs.Sound.{MembersAreSound}
@@ -119,7 +119,7 @@ four_written k a b c h ha hb hc =
 -- ---- all levels
 
 mutual
-  pub type_written : (t : TypeData) → IsSpelled t → HasTexts t → IsWritten (type_value t)
+  pub type_written : (t : TypeData) → IsSpelled t → IsType t → IsWritten (type_value t)
   type_written T.null h k = named_written (codes "null") refl
   type_written T.boolean h k = named_written (codes "boolean") refl
   type_written T.int8 h k = named_written (codes "int8") refl
@@ -153,16 +153,16 @@ mutual
   type_written (T.fixed_size_list f n) h k = three_written (codes "fixed_size_list") (field_value f) (whole_value n) (named_written (codes "fixed_size_list") refl) (field_written f h.1 k) (whole_written n h.0)
   type_written (T.struct fs) h k = two_written (codes "struct") (array (fields_value fs)) (named_written (codes "struct") refl) (array_written (fields_value fs) (fields_written fs h k))
   type_written (T.map f o) h k = three_written (codes "map") (field_value f) (boolean o) (named_written (codes "map") refl) (field_written f h k) (boolean_written o)
-  type_written (T.union fs is m) h k = four_written (codes "union") (string (mode_name m)) (ids_value is) (array (fields_value fs)) (named_written (codes "union") refl) (mode_written m) (ids_written is h.0) (array_written (fields_value fs) (fields_written fs h.1 k))
+  type_written (T.union fs is m) h k = four_written (codes "union") (string (mode_name m)) (ids_value is) (array (fields_value fs)) (named_written (codes "union") refl) (mode_written m) (ids_written is h.0) (array_written (fields_value fs) (fields_written fs h.1 k.1))
   type_written (T.dictionary i t o) h k = four_written (codes "dictionary") (string (integer_name i)) (type_value t) (boolean o) (named_written (codes "dictionary") refl) (integer_written i) (type_written t h k) (boolean_written o)
   type_written (T.decimal p s) h k = three_written (codes "decimal") (whole_value p) (whole_value s) (named_written (codes "decimal") refl) (whole_written p h.0) (whole_written s h.1)
   type_written (T.decimal256 p s) h k = absurd h
   type_written (T.extension n t m) h k = four_written (codes "extension") (string n) (type_value t) (text_value m) (named_written (codes "extension") refl) (string_written n k.0.0) (type_written t h k.1) (text_written m k.0.1)
   type_written T.unknown h k = absurd h
 
-  field_written : (f : FieldData) → FieldIsSpelled f → FieldHasTexts f → IsWritten (field_value f)
-  field_written (T.field n t b m) h k = four_written n (type_value t) (boolean b) (metadata_value m) (string_written n k.0.0) (type_written t h.0 k.1) (boolean_written b) (metadata_written m h.1 k.0.1)
+  field_written : (f : FieldData) → FieldIsSpelled f → IsField f → IsWritten (field_value f)
+  field_written (T.field n t b m) h k = four_written n (type_value t) (boolean b) (metadata_value m) (string_written n k.0.0) (type_written t h.0 k.1) (boolean_written b) (metadata_written m h.1 k.0.1.1)
 
-  fields_written : (fs : FieldList) → AreSpelled fs → HaveTexts fs → AreWritten (fields_value fs)
+  fields_written : (fs : FieldList) → AreSpelled fs → AreFields fs → AreWritten (fields_value fs)
   fields_written no_fields h k = none_written
   fields_written (and_field f fs) h k = item_written (field_value f) (fields_value fs) (field_written f h.0 k.0) (fields_written fs h.1 k.1)

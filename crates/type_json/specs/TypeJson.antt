@@ -356,7 +356,7 @@ abbrev mutual
   AreSpelled no_fields = ⊤
   AreSpelled (and_field f fs) = FieldIsSpelled f × AreSpelled fs
 
--- ---- types whose names and texts are UTF-8
+-- ---- which data are a type
 
 abbrev pub IsText : Option (List ℕ) → Type 0
 IsText None = ⊤
@@ -370,22 +370,26 @@ abbrev pub EntriesAreTexts : Option Entries → Type 0
 EntriesAreTexts None = ⊤
 EntriesAreTexts (Some es) = AreTextEntries es
 
+abbrev pub IsMetadata : Option Entries → Type 0
+IsMetadata m = IsMap m × EntriesAreTexts m
+
+-- Names, time zones and metadata are UTF-8, the keys of metadata ascend, and the ids of a union have 32 bits, at each depth.
 abbrev mutual
-  pub HasTexts : TypeData → Type 0
-  HasTexts (T.timestamp u z) = IsText z
-  HasTexts (T.list f) = FieldHasTexts f
-  HasTexts (T.large_list f) = FieldHasTexts f
-  HasTexts (T.fixed_size_list f n) = FieldHasTexts f
-  HasTexts (T.struct fs) = HaveTexts fs
-  HasTexts (T.map f o) = FieldHasTexts f
-  HasTexts (T.union fs is m) = HaveTexts fs
-  HasTexts (T.dictionary k t o) = HasTexts t
-  HasTexts (T.extension n t m) = (IsUtf8 n × IsText m) × HasTexts t
-  HasTexts _ = ⊤
+  pub IsType : TypeData → Type 0
+  IsType (T.timestamp u z) = IsText z
+  IsType (T.list f) = IsField f
+  IsType (T.large_list f) = IsField f
+  IsType (T.fixed_size_list f n) = IsField f
+  IsType (T.struct fs) = AreFields fs
+  IsType (T.map f o) = IsField f
+  IsType (T.union fs is m) = AreInt32 is × AreFields fs
+  IsType (T.dictionary k t o) = IsType t
+  IsType (T.extension n t m) = (IsUtf8 n × IsText m) × IsType t
+  IsType _ = ⊤
 
-  pub FieldHasTexts : FieldData → Type 0
-  FieldHasTexts (T.field n t b m) = (IsUtf8 n × EntriesAreTexts m) × HasTexts t
+  pub IsField : FieldData → Type 0
+  IsField (T.field n t b m) = (IsUtf8 n × IsMetadata m) × IsType t
 
-  pub HaveTexts : FieldList → Type 0
-  HaveTexts no_fields = ⊤
-  HaveTexts (and_field f fs) = FieldHasTexts f × HaveTexts fs
+  pub AreFields : FieldList → Type 0
+  AreFields no_fields = ⊤
+  AreFields (and_field f fs) = IsField f × AreFields fs

@@ -1,14 +1,15 @@
+//! Why a value is not read.
 ghost use Rattle.std.specs.Prelude.{◌≡◌};
 ghost use Rattle.type_json.specs.declared.error.JsonError.TheVariants.{OutOfMemory};
 
 use std::alloc::{AllocError, AllocFailed};
 
-/// Why a value gives no type.
+/// Why a JSON value is not read as a type or as a column.
 #[derive(Clone, Copy, Debug, PartialEq, Eq)]
 pub enum JsonError {
-    /// It spells none.
-    NoType,
-    /// There was no memory.
+    /// It is none of the grammar.
+    BadValue,
+    /// Memory ran out.
     OutOfMemory,
 }
 

@@ -10,6 +10,6 @@ mod writer;
 
 pub use error::JsonError;
 pub use laws::{text_reads_back, type_reads_back, value_reads_back};
-pub use reader::type_of;
+pub use reader::type_from_json;
 pub use values::{int32_in, whole_in};
 pub use writer::type_json;

@@ -34,7 +34,7 @@ fn integer_named(name: &str) -> Option<IntegerType>
     }
 }
 
-#[tactic(auto, unfolding(crate::specs::TypeJson::view_named), using(arrow_types::proofs::SeenAt::seen_rules))]
+#[tactic(auto, unfolding(crate::specs::TypeJson::view_named), using(crate::proofs::Seen::at))]
 fn view_named(name: &str) -> Option<ArrowDataType>
     ensures { option_map seen result ≡ view_named name.now }
 {
@@ -47,7 +47,7 @@ fn view_named(name: &str) -> Option<ArrowDataType>
     }
 }
 
-#[tactic(auto, unfolding(crate::specs::TypeJson::text_named), using(arrow_types::proofs::SeenAt::seen_rules))]
+#[tactic(auto, unfolding(crate::specs::TypeJson::text_named), using(crate::proofs::Seen::at))]
 fn text_named(name: &str) -> Option<ArrowDataType>
     ensures { option_map seen result ≡ text_named name.now }
 {
@@ -60,7 +60,7 @@ fn text_named(name: &str) -> Option<ArrowDataType>
     }
 }
 
-#[tactic(auto, unfolding(crate::specs::TypeJson::bytes_named), using(arrow_types::proofs::SeenAt::seen_rules))]
+#[tactic(auto, unfolding(crate::specs::TypeJson::bytes_named), using(crate::proofs::Seen::at))]
 fn bytes_named(name: &str) -> Option<ArrowDataType>
     ensures { option_map seen result ≡ bytes_named name.now }
 {
@@ -73,7 +73,7 @@ fn bytes_named(name: &str) -> Option<ArrowDataType>
     }
 }
 
-#[tactic(auto, unfolding(crate::specs::TypeJson::plain_named), using(arrow_types::proofs::SeenAt::seen_rules))]
+#[tactic(auto, unfolding(crate::specs::TypeJson::plain_named), using(crate::proofs::Seen::at))]
 fn plain_named(name: &str) -> Option<ArrowDataType>
     ensures { option_map seen result ≡ plain_named name.now }
 {

@@ -1,11 +1,13 @@
 //! The type that a JSON value spells.
-ghost use Rattle.std.specs.Prelude.{◌≡◌, [], Some, None, IfOk, IsErrOf, option_map, option_and_then};
+ghost use Rattle.std.specs.Prelude.{◌≡◌, [], Some, None, IfOk, option_map, option_and_then};
 ghost use Rattle.serde_json.specs.Find.{as_str};
 ghost use Rattle.serde_json.specs.View.{view, members_view, items_view};
 ghost use Rattle.arrow_types.specs.Seen.{seen, seen_field, seen_fields};
 ghost use Rattle.arrow_types.specs.TypeData as T;
+ghost use Rattle.type_json.specs.Reads.{Reads};
 ghost use Rattle.type_json.specs.Values.{text_or_null};
-ghost use Rattle.type_json.specs.TypeJson.{ids_in, entries_in, metadata_in, flat_two, timestamp_from, decimal_from, type_in, field_in, fields_in, fields_list, two_in, three_in, four_in, field_parts, ids_list, union_from, dictionary_from, extension_from};
+ghost use Rattle.type_json.specs.declared.error.JsonError.TheVariants.{BadValue};
+ghost use Rattle.type_json.specs.TypeJson.{ids_in, entries_in, metadata_in, flat_two, timestamp_from, decimal_from, type_in, field_in, fields_in, fields_list, two_in, three_in, four_in, field_parts, ids_list, union_from, dictionary_from, extension_from, IsSpelled, IsType};
 
 use crate::error::JsonError;
 use crate::names::{integer_in, interval_in, mode_in, named, unit_in};
@@ -17,37 +19,41 @@ use arrow_types::{
 use serde_json::{Map, Value};
 use std::alloc::Global;
 
-/// The type that a value spells. NoType exactly where it spells none.
+/// The type that a JSON value spells. BadValue exactly where it spells none.
+///
+/// Its names and texts are UTF-8, the keys of its metadata ascend, and its ids have 32 bits.
+pub fn type_from_json(alloc: Global, value: &Value) -> Result<ArrowDataType, JsonError>
+    ensures read { Reads BadValue seen (type_in (view value.now)) result }
+    ensures spelled { IfOk result (λ t. IsSpelled (seen t)) }
+    ensures is_type { IfOk result (λ t. IsType (seen t)) }
+{
+    type_of(alloc, value)
+}
+
+/// The type that a value spells.
 #[cycle(reader)]
-pub fn type_of(alloc: Global, value: &Value) -> Result<ArrowDataType, JsonError>
-    ensures ok { IfOk result (λ t. type_in (view value.now) ≡ Some (seen t)) }
-    ensures bad { IsErrOf result JsonError.NoType → type_in (view value.now) ≡ None }
+fn type_of(alloc: Global, value: &Value) -> Result<ArrowDataType, JsonError>
+    ensures { Reads BadValue seen (type_in (view value.now)) result }
 {
     match value {
-        Value::String(name) => match named(name.as_str()) {
-            Some(dtype) => Ok(dtype),
-            None => Err(JsonError::NoType),
-        },
+        Value::String(name) => named(name.as_str()).ok_or(JsonError::BadValue),
         Value::Array(list) => match list.as_slice() {
             [kind, part] => of_two(alloc, kind, part),
             [kind, part, last] => of_three(alloc, kind, part, last),
             [kind, part, third, last] => of_four(alloc, kind, part, third, last),
-            _ => Err(JsonError::NoType),
+            _ => Err(JsonError::BadValue),
         },
-        _ => Err(JsonError::NoType),
+        _ => Err(JsonError::BadValue),
     }
 }
 
 /// The type that an array of these two items spells.
 #[cycle(reader)]
-#[tactic(auto, unfolding(crate::specs::TypeJson::of_two), using(arrow_types::proofs::SeenAt::seen_rules))]
+#[tactic(auto, unfolding(crate::specs::TypeJson::of_two), using(crate::proofs::Seen::at))]
 fn of_two(alloc: Global, kind: &Value, part: &Value) -> Result<ArrowDataType, JsonError>
-    ensures ok { IfOk result (λ t. two_in (view kind.now) (view part.now) ≡ Some (seen t)) }
-    ensures bad { IsErrOf result JsonError.NoType → two_in (view kind.now) (view part.now) ≡ None }
+    ensures { Reads BadValue seen (two_in (view kind.now) (view part.now)) result }
 {
-    let Some(kind) = kind.as_str() else {
-        return Err(JsonError::NoType);
-    };
+    let kind = kind.as_str().ok_or(JsonError::BadValue)?;
     if kind == "list" {
         let field = field_of(alloc, part)?;
         Ok(ArrowDataType::List(Boxed::new(alloc, field)?))
@@ -58,15 +64,12 @@ fn of_two(alloc: Global, kind: &Value, part: &Value) -> Result<ArrowDataType, Js
         let fields = fields_of(alloc, part)?;
         Ok(ArrowDataType::Struct(fields))
     } else {
-        match flat_two(kind, part) {
-            Some(dtype) => Ok(dtype),
-            None => Err(JsonError::NoType),
-        }
+        flat_two(kind, part).ok_or(JsonError::BadValue)
     }
 }
 
 /// The type with no type in it that an array of two items spells.
-#[tactic(auto, unfolding(crate::specs::TypeJson::flat_two), using(arrow_types::proofs::SeenAt::seen_rules))]
+#[tactic(auto, unfolding(crate::specs::TypeJson::flat_two), using(crate::proofs::Seen::at))]
 fn flat_two(kind: &str, part: &Value) -> Option<ArrowDataType>
     ensures { option_map seen result ≡ flat_two kind.now (view part.now) }
 {
@@ -87,56 +90,44 @@ fn flat_two(kind: &str, part: &Value) -> Option<ArrowDataType>
 
 /// The type that an array of these three items spells.
 #[cycle(reader)]
-#[tactic(auto, unfolding(crate::specs::TypeJson::of_three), using(arrow_types::proofs::SeenAt::seen_rules))]
+#[tactic(auto, unfolding(crate::specs::TypeJson::of_three), using(crate::proofs::Seen::at))]
 fn of_three(
     alloc: Global,
     kind: &Value,
     part: &Value,
     last: &Value,
 ) -> Result<ArrowDataType, JsonError>
-    ensures ok { IfOk result (λ t. three_in (view kind.now) (view part.now) (view last.now) ≡ Some (seen t)) }
-    ensures bad { IsErrOf result JsonError.NoType → three_in (view kind.now) (view part.now) (view last.now) ≡ None }
+    ensures { Reads BadValue seen
+        (three_in (view kind.now) (view part.now) (view last.now)) result }
 {
-    let Some(kind) = kind.as_str() else {
-        return Err(JsonError::NoType);
-    };
+    let kind = kind.as_str().ok_or(JsonError::BadValue)?;
     if kind == "fixed_size_list" {
         let field = field_of(alloc, part)?;
-        let Some(size) = whole_in(last) else {
-            return Err(JsonError::NoType);
-        };
+        let size = whole_in(last).ok_or(JsonError::BadValue)?;
         Ok(ArrowDataType::FixedSizeList(Boxed::new(alloc, field)?, size))
     } else if kind == "map" {
         let field = field_of(alloc, part)?;
-        let Some(is_sorted) = last.as_bool() else {
-            return Err(JsonError::NoType);
-        };
+        let is_sorted = last.as_bool().ok_or(JsonError::BadValue)?;
         Ok(ArrowDataType::Map(Boxed::new(alloc, field)?, is_sorted))
     } else if kind == "timestamp" {
         timestamp(alloc, part, last)
     } else if kind == "decimal" {
-        match decimal(part, last) {
-            Some(dtype) => Ok(dtype),
-            None => Err(JsonError::NoType),
-        }
+        decimal(part, last).ok_or(JsonError::BadValue)
     } else {
-        Err(JsonError::NoType)
+        Err(JsonError::BadValue)
     }
 }
 
-#[tactic(auto, unfolding(crate::specs::TypeJson::timestamp_from), using(arrow_types::proofs::SeenAt::seen_rules))]
+#[tactic(auto, unfolding(crate::specs::TypeJson::timestamp_from), using(crate::proofs::Seen::at))]
 fn timestamp(alloc: Global, unit: &Value, zone: &Value) -> Result<ArrowDataType, JsonError>
-    ensures ok { IfOk result (λ t. timestamp_from (view unit.now) (view zone.now) ≡ Some (seen t)) }
-    ensures bad { IsErrOf result JsonError.NoType → timestamp_from (view unit.now) (view zone.now) ≡ None }
+    ensures { Reads BadValue seen (timestamp_from (view unit.now) (view zone.now)) result }
 {
-    let Some(unit) = unit_in(unit) else {
-        return Err(JsonError::NoType);
-    };
+    let unit = unit_in(unit).ok_or(JsonError::BadValue)?;
     let zone = text_or_null(alloc, zone)?;
     Ok(ArrowDataType::Timestamp(unit, zone))
 }
 
-#[tactic(auto, unfolding(crate::specs::TypeJson::decimal_from), using(arrow_types::proofs::SeenAt::seen_rules))]
+#[tactic(auto, unfolding(crate::specs::TypeJson::decimal_from), using(crate::proofs::Seen::at))]
 fn decimal(precision: &Value, scale: &Value) -> Option<ArrowDataType>
     ensures { option_map seen result ≡ decimal_from (view precision.now) (view scale.now) }
 {
@@ -155,12 +146,10 @@ fn of_four(
     third: &Value,
     last: &Value,
 ) -> Result<ArrowDataType, JsonError>
-    ensures ok { IfOk result (λ t. four_in (view kind.now) (view part.now) (view third.now) (view last.now) ≡ Some (seen t)) }
-    ensures bad { IsErrOf result JsonError.NoType → four_in (view kind.now) (view part.now) (view third.now) (view last.now) ≡ None }
+    ensures { Reads BadValue seen
+        (four_in (view kind.now) (view part.now) (view third.now) (view last.now)) result }
 {
-    let Some(kind) = kind.as_str() else {
-        return Err(JsonError::NoType);
-    };
+    let kind = kind.as_str().ok_or(JsonError::BadValue)?;
     if kind == "union" {
         union(alloc, part, third, last)
     } else if kind == "dictionary" {
@@ -168,30 +157,28 @@ fn of_four(
     } else if kind == "extension" {
         extension(alloc, part, third, last)
     } else {
-        Err(JsonError::NoType)
+        Err(JsonError::BadValue)
     }
 }
 
 #[cycle(reader)]
-#[tactic(auto, unfolding(crate::specs::TypeJson::union_from), using(arrow_types::proofs::SeenAt::seen_rules))]
+#[tactic(auto, unfolding(crate::specs::TypeJson::union_from), using(crate::proofs::Seen::at))]
 fn union(
     alloc: Global,
     mode: &Value,
     ids: &Value,
     fields: &Value,
 ) -> Result<ArrowDataType, JsonError>
-    ensures ok { IfOk result (λ t. union_from (view mode.now) (view ids.now) (fields_in (view fields.now)) ≡ Some (seen t)) }
-    ensures bad { IsErrOf result JsonError.NoType → union_from (view mode.now) (view ids.now) (fields_in (view fields.now)) ≡ None }
+    ensures { Reads BadValue seen
+        (union_from (view mode.now) (view ids.now) (fields_in (view fields.now))) result }
 {
-    let Some(mode) = mode_in(mode) else {
-        return Err(JsonError::NoType);
-    };
+    let mode = mode_in(mode).ok_or(JsonError::BadValue)?;
     let ids = ids_in(alloc, ids)?;
     let fields = fields_of(alloc, fields)?;
     Ok(union_of(alloc, fields, ids, mode)?)
 }
 
-#[tactic(auto, using(arrow_types::proofs::SeenAt::seen_rules))]
+#[tactic(auto, using(crate::proofs::Seen::at))]
 fn union_of(alloc: Global, fields: Fields, ids: Option<Ids>, mode: UnionMode) -> Mem<ArrowDataType>
     ensures { IfOk result (λ t. seen t ≡ T.union (seen_fields fields) ids mode) }
 {
@@ -200,40 +187,34 @@ fn union_of(alloc: Global, fields: Fields, ids: Option<Ids>, mode: UnionMode) ->
 }
 
 #[cycle(reader)]
-#[tactic(auto, unfolding(crate::specs::TypeJson::dictionary_from), using(arrow_types::proofs::SeenAt::seen_rules))]
+#[tactic(auto, unfolding(crate::specs::TypeJson::dictionary_from), using(crate::proofs::Seen::at))]
 fn dictionary(
     alloc: Global,
     key: &Value,
     dtype: &Value,
     ordered: &Value,
 ) -> Result<ArrowDataType, JsonError>
-    ensures ok { IfOk result (λ t. dictionary_from (view key.now) (type_in (view dtype.now)) (view ordered.now) ≡ Some (seen t)) }
-    ensures bad { IsErrOf result JsonError.NoType → dictionary_from (view key.now) (type_in (view dtype.now)) (view ordered.now) ≡ None }
+    ensures { Reads BadValue seen
+        (dictionary_from (view key.now) (type_in (view dtype.now)) (view ordered.now)) result }
 {
-    let Some(key) = integer_in(key) else {
-        return Err(JsonError::NoType);
-    };
+    let key = integer_in(key).ok_or(JsonError::BadValue)?;
     let values = type_of(alloc, dtype)?;
-    let Some(is_ordered) = ordered.as_bool() else {
-        return Err(JsonError::NoType);
-    };
+    let is_ordered = ordered.as_bool().ok_or(JsonError::BadValue)?;
     Ok(ArrowDataType::Dictionary(key, Boxed::new(alloc, values)?, is_ordered))
 }
 
 #[cycle(reader)]
-#[tactic(auto, unfolding(crate::specs::TypeJson::extension_from), using(arrow_types::proofs::SeenAt::seen_rules))]
+#[tactic(auto, unfolding(crate::specs::TypeJson::extension_from), using(crate::proofs::Seen::at))]
 fn extension(
     alloc: Global,
     name: &Value,
     dtype: &Value,
     metadata: &Value,
 ) -> Result<ArrowDataType, JsonError>
-    ensures ok { IfOk result (λ t. extension_from (view name.now) (type_in (view dtype.now)) (view metadata.now) ≡ Some (seen t)) }
-    ensures bad { IsErrOf result JsonError.NoType → extension_from (view name.now) (type_in (view dtype.now)) (view metadata.now) ≡ None }
+    ensures { Reads BadValue seen
+        (extension_from (view name.now) (type_in (view dtype.now)) (view metadata.now)) result }
 {
-    let Some(name) = name.as_str() else {
-        return Err(JsonError::NoType);
-    };
+    let name = name.as_str().ok_or(JsonError::BadValue)?;
     let inner = type_of(alloc, dtype)?;
     let metadata = text_or_null(alloc, metadata)?;
     let name = PlSmallStr::try_from_str(alloc, name)?;
@@ -248,15 +229,14 @@ fn extension(
 /// The field that a value spells.
 #[cycle(reader)]
 fn field_of(alloc: Global, value: &Value) -> Result<Field, JsonError>
-    ensures ok { IfOk result (λ f. field_in (view value.now) ≡ Some (seen_field f)) }
-    ensures bad { IsErrOf result JsonError.NoType → field_in (view value.now) ≡ None }
+    ensures { Reads BadValue seen_field (field_in (view value.now)) result }
 {
     match value {
         Value::Array(list) => match list.as_slice() {
             [name, dtype, nullable, metadata] => field_from(alloc, name, dtype, nullable, metadata),
-            _ => Err(JsonError::NoType),
+            _ => Err(JsonError::BadValue),
         },
-        _ => Err(JsonError::NoType),
+        _ => Err(JsonError::BadValue),
     }
 }
 
@@ -269,16 +249,13 @@ fn field_from(
     nullable: &Value,
     metadata: &Value,
 ) -> Result<Field, JsonError>
-    ensures ok { IfOk result (λ f. field_parts (view name.now) (view dtype.now) (view nullable.now) (view metadata.now) ≡ Some (seen_field f)) }
-    ensures bad { IsErrOf result JsonError.NoType → field_parts (view name.now) (view dtype.now) (view nullable.now) (view metadata.now) ≡ None }
+    ensures { Reads BadValue seen_field
+        (field_parts (view name.now) (view dtype.now) (view nullable.now) (view metadata.now))
+        result }
 {
-    let Some(name) = name.as_str() else {
-        return Err(JsonError::NoType);
-    };
+    let name = name.as_str().ok_or(JsonError::BadValue)?;
     let dtype = type_of(alloc, dtype)?;
-    let Some(is_nullable) = nullable.as_bool() else {
-        return Err(JsonError::NoType);
-    };
+    let is_nullable = nullable.as_bool().ok_or(JsonError::BadValue)?;
     let metadata = metadata_in(alloc, metadata)?;
     let name = PlSmallStr::try_from_str(alloc, name)?;
     Ok(Field {
@@ -292,19 +269,17 @@ fn field_from(
 /// The fields that an array spells.
 #[cycle(reader)]
 fn fields_of(alloc: Global, value: &Value) -> Result<Fields, JsonError>
-    ensures ok { IfOk result (λ fs. fields_in (view value.now) ≡ Some (seen_fields fs)) }
-    ensures bad { IsErrOf result JsonError.NoType → fields_in (view value.now) ≡ None }
+    ensures { Reads BadValue seen_fields (fields_in (view value.now)) result }
 {
     match value {
         Value::Array(list) => fields_list(alloc, list.as_slice()),
-        _ => Err(JsonError::NoType),
+        _ => Err(JsonError::BadValue),
     }
 }
 
 #[cycle(reader)]
 fn fields_list(alloc: Global, list: &[Value]) -> Result<Fields, JsonError>
-    ensures ok { IfOk result (λ fs. fields_list (items_view list.now) ≡ Some (seen_fields fs)) }
-    ensures bad { IsErrOf result JsonError.NoType → fields_list (items_view list.now) ≡ None }
+    ensures { Reads BadValue seen_fields (fields_list (items_view list.now)) result }
 {
     let mut fields = Fields::new(alloc);
     for item in list {
@@ -315,36 +290,33 @@ fn fields_list(alloc: Global, list: &[Value]) -> Result<Fields, JsonError>
 
 /// The text that a value is, or none of null.
 fn text_or_null(alloc: Global, value: &Value) -> Result<Option<PlSmallStr>, JsonError>
-    ensures ok { IfOk result (λ o. text_or_null (view value.now) ≡ Some o) }
-    ensures bad { IsErrOf result JsonError.NoType → text_or_null (view value.now) ≡ None }
+    ensures { Reads BadValue (λ o. o) (text_or_null (view value.now)) result }
 {
     match value {
         Value::Null => Ok(None),
         Value::String(text) => Ok(Some(PlSmallStr::try_from_str(alloc, text.as_str())?)),
-        _ => Err(JsonError::NoType),
+        _ => Err(JsonError::BadValue),
     }
 }
 
 /// The ids of a union that a value is, or none of null.
 fn ids_in(alloc: Global, value: &Value) -> Result<Option<Ids>, JsonError>
-    ensures ok { IfOk result (λ o. ids_in (view value.now) ≡ Some o) }
-    ensures bad { IsErrOf result JsonError.NoType → ids_in (view value.now) ≡ None }
+    ensures { Reads BadValue (λ o. o) (ids_in (view value.now)) result }
 {
     match value {
         Value::Null => Ok(None),
         Value::Array(list) => Ok(Some(ids_list(alloc, list.as_slice())?)),
-        _ => Err(JsonError::NoType),
+        _ => Err(JsonError::BadValue),
     }
 }
 
 fn ids_list(alloc: Global, list: &[Value]) -> Result<Ids, JsonError>
-    ensures ok { IfOk result (λ is. ids_list (items_view list.now) ≡ Some (Some is)) }
-    ensures bad { IsErrOf result JsonError.NoType → ids_list (items_view list.now) ≡ None }
+    ensures { Reads BadValue Some (ids_list (items_view list.now)) result }
 {
     let mut ids = Ids::new(alloc);
     for item in list {
         let Some(id) = int32_in(item) else {
-            return Err(JsonError::NoType);
+            return Err(JsonError::BadValue);
         };
         ids.push(id)?;
     }
@@ -353,8 +325,7 @@ fn ids_list(alloc: Global, list: &[Value]) -> Result<Ids, JsonError>
 
 /// The metadata that a value is, or none of null.
 fn metadata_in(alloc: Global, value: &Value) -> Result<Option<SharedMetadata>, JsonError>
-    ensures ok { IfOk result (λ o. metadata_in (view value.now) ≡ Some o) }
-    ensures bad { IsErrOf result JsonError.NoType → metadata_in (view value.now) ≡ None }
+    ensures { Reads BadValue (λ o. o) (metadata_in (view value.now)) result }
 {
     match value {
         Value::Null => Ok(None),
@@ -362,19 +333,17 @@ fn metadata_in(alloc: Global, value: &Value) -> Result<Option<SharedMetadata>, J
             let map = entries_in(alloc, members)?;
             Ok(Some(SharedMetadata::new(alloc, map)?))
         }
-        _ => Err(JsonError::NoType),
+        _ => Err(JsonError::BadValue),
     }
 }
 
 fn entries_in(alloc: Global, members: &Map<String, Value>) -> Result<Metadata, JsonError>
-    ensures ok { IfOk result (λ m. entries_in (members_view members.now.entries) [] ≡ Some m.entries) }
-    ensures bad { IsErrOf result JsonError.NoType → entries_in (members_view members.now.entries) [] ≡ None }
+    ensures { Reads BadValue (λ m. m.entries)
+        (entries_in (members_view members.now.entries) []) result }
 {
     let mut map = Metadata::new(alloc);
     for (key, member) in members.iter() {
-        let Some(text) = member.as_str() else {
-            return Err(JsonError::NoType);
-        };
+        let text = member.as_str().ok_or(JsonError::BadValue)?;
         let key = PlSmallStr::try_from_str(alloc, key.as_str())?;
         let text = PlSmallStr::try_from_str(alloc, text)?;
         drop(map.insert(key, text)?);

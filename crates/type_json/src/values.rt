@@ -19,10 +19,5 @@ pub fn whole_in(value: &Value) -> Option<usize>
 pub fn int32_in(value: &Value) -> Option<i32>
     ensures { result ≡ int32_in (view value.now) }
 {
-    let wide = value.as_i64()?;
-    if wide >= -2_147_483_648 && wide <= 2_147_483_647 {
-        Some(wide as i32)
-    } else {
-        None
-    }
+    i32::try_from(value.as_i64()?).ok()
 }

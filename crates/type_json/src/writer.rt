@@ -95,7 +95,7 @@ fn no_spelling() -> Value
 
 /// The JSON value that spells a type, null where the type has no spelling.
 #[cycle(writer)]
-#[tactic(auto, using(arrow_types::proofs::SeenAt::seen_rules))]
+#[tactic(auto, using(crate::proofs::Seen::at))]
 pub fn type_json(alloc: Global, dtype: &ArrowDataType) -> Mem<Value>
     ensures { IfOk result (λ v. view v ≡ type_value (seen dtype.now)) }
 {
@@ -182,7 +182,9 @@ fn map_json(alloc: Global, field: Value, is_sorted: bool) -> Mem<Value>
 }
 
 fn dictionary_json(alloc: Global, key: IntegerType, values: Value, is_ordered: bool) -> Mem<Value>
-    ensures { IfOk result (λ v. view v ≡ four (codes "dictionary") (string (integer_name key)) (view values) (boolean is_ordered)) }
+    ensures { IfOk result (λ v. view v
+        ≡ four (codes "dictionary")
+        (string (integer_name key)) (view values) (boolean is_ordered)) }
 {
     let key = Value::try_from_str(alloc, integer_name(key))?;
     four(alloc, "dictionary", key, values, Value::Bool(is_ordered))
@@ -230,7 +232,8 @@ fn field_parts(
     is_nullable: bool,
     metadata: Value,
 ) -> Mem<Value>
-    ensures { IfOk result (λ v. view v ≡ four name.now (view dtype) (boolean is_nullable) (view metadata)) }
+    ensures { IfOk result (λ v. view v
+        ≡ four name.now (view dtype) (boolean is_nullable) (view metadata)) }
 {
     four(alloc, name, dtype, Value::Bool(is_nullable), metadata)
 }
@@ -284,7 +287,8 @@ fn metadata_json(alloc: Global, metadata: &Option<SharedMetadata>) -> Mem<Value>
 }
 
 fn entries_json(alloc: Global, metadata: &Metadata) -> Mem<Map<String, Value>>
-    ensures { IfOk result (λ m. members_view m.entries ≡ with_entries metadata.now.entries no_members) }
+    ensures { IfOk result (λ m. members_view m.entries
+        ≡ with_entries metadata.now.entries no_members) }
 {
     let mut map = Map::new(alloc);
     for (key, text) in metadata.iter() {

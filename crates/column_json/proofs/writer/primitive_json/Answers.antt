@@ -10,5 +10,5 @@ use Rattle.column_json.proofs.writer.primitive_json.Goals as goal
 pub returns : goal.returns
 returns g c =
     let a = c.args.array.now in
-    let form = primitive_form (seen a.dtype) g.T.NativeType.PRIMITIVE c.dtype.ensures.sound.stored in
+    let form = primitive_form (seen a.dtype) g.T.NativeType.PRIMITIVE c.invariant.ensures.stored in
     subst (λ p. IfOk c.numbers_json.result (λ v. view v ≡ primitives_value p a.mask (map g.T.NativeType.parts a.values))) (sym (ap primitive_by form)) c.numbers_json.ensures

@@ -19,27 +19,21 @@ fields_list-loop-item-preserved t c =
     let v = c.item-item.result in
     let d : drop i vs ≡ v ∷ drop (i + 1) vs = drop_more vs i v c.loop-item-test.true ∙ ap (λ y. y ∷ drop (i + 1) vs) (sym c.item-item.is) in
     subst (λ all. fields_list (items_view vs) ≡ behind all (fields_list (items_view (drop (i + 1) vs)))) (sym c.in_ok-push.ensures.ok)
-    (kept (fields_list (items_view vs)) vs c.loop-item.fields i c.loop-item.invariant v c.in_ok-field_of.field-0 d c.in_ok-field_of.ensures.ok)
+    (kept (fields_list (items_view vs)) vs c.loop-item.fields i c.loop-item.invariant v c.in_ok-field_of.field-0 d c.in_ok-field_of.ensures)
 
-pub fields_list-returns-clause-ok : goal.fields_list-returns-clause-ok
-fields_list-returns-clause-ok t c =
+pub fields_list-returns : goal.fields_list-returns
+fields_list-returns t c =
     let vs = c.args.list.now in
     done (fields_list (items_view vs)) vs c.loop-item.fields c.loop-item.item-index c.loop-item.invariant (drop_all c.loop-item.item-index vs c.loop-item-test.false)
 
-pub field_of-returns-in-len4-clause-ok : goal.field_of-returns-in-len4-clause-ok
-field_of-returns-in-len4-clause-ok t c =
+pub field_of-returns-in-len4 : goal.field_of-returns-in-len4
+field_of-returns-in-len4 t c =
     let is = array_value c.args.value.now c.in-Array.list c.as_slice.result.now c.in-Array.is c.as_slice.ensures.value in
     let four = four_items c.as_slice.result.now c.name-item.result c.dtype-item.result c.nullable-item.result c.metadata-item.result c.in-len4.len_at_least c.in-len4.len_below c.name-item.is c.dtype-item.is c.nullable-item.is c.metadata-item.is in
-    rw (ap field_in (is ∙ ap array four)) c.field_from.ensures.ok
+    rw (ap field_in (is ∙ ap array four)) c.field_from.ensures
 
-pub field_of-returns-in-len4-clause-bad : goal.field_of-returns-in-len4-clause-bad
-field_of-returns-in-len4-clause-bad t c =
-    let is = array_value c.args.value.now c.in-Array.list c.as_slice.result.now c.in-Array.is c.as_slice.ensures.value in
-    let four = four_items c.as_slice.result.now c.name-item.result c.dtype-item.result c.nullable-item.result c.metadata-item.result c.in-len4.len_at_least c.in-len4.len_below c.name-item.is c.dtype-item.is c.nullable-item.is c.metadata-item.is in
-    rw (ap field_in (is ∙ ap array four)) c.field_from.ensures.bad
-
-pub field_of-returns-in_default-as_slice-clause-bad : goal.field_of-returns-in_default-as_slice-clause-bad
-field_of-returns-in_default-as_slice-clause-bad t c =
+pub field_of-returns-in_default-as_slice : goal.field_of-returns-in_default-as_slice
+field_of-returns-in_default-as_slice t c =
     let vs = c.as_slice.result.now in
     let is = array_value c.args.value.now c.in-Array.list vs c.in-Array.is c.as_slice.ensures.value in
     elim c.in_default-as_slice.branch [
@@ -47,20 +41,14 @@ field_of-returns-in_default-as_slice-clause-bad t c =
       | field_of-in_default-as_slice-via-else-as_slice-lt4+else-this-lt5 w ↦ λ _. ap field_in is ∙ long_field vs (search rules)
     ]
 
-pub type_of-returns-in-len4-clause-ok : goal.type_of-returns-in-len4-clause-ok
-type_of-returns-in-len4-clause-ok t c =
+pub type_of-returns-in-len4 : goal.type_of-returns-in-len4
+type_of-returns-in-len4 t c =
     let is = array_value c.args.value.now c.in-Array.list c.as_slice.result.now c.in-Array.is c.as_slice.ensures.value in
     let four = four_items c.as_slice.result.now c.kind-item-then-this-lt5.result c.part-item-then-this-lt5.result c.third-item.result c.last-item-then-this-lt5.result c.in-len4.len_at_least c.in-len4.len_below c.kind-item-then-this-lt5.is c.part-item-then-this-lt5.is c.third-item.is c.last-item-then-this-lt5.is in
-    rw (ap type_in (is ∙ ap array four)) c.of_four.ensures.ok
+    rw (ap type_in (is ∙ ap array four)) c.of_four.ensures
 
-pub type_of-returns-in-len4-clause-bad : goal.type_of-returns-in-len4-clause-bad
-type_of-returns-in-len4-clause-bad t c =
-    let is = array_value c.args.value.now c.in-Array.list c.as_slice.result.now c.in-Array.is c.as_slice.ensures.value in
-    let four = four_items c.as_slice.result.now c.kind-item-then-this-lt5.result c.part-item-then-this-lt5.result c.third-item.result c.last-item-then-this-lt5.result c.in-len4.len_at_least c.in-len4.len_below c.kind-item-then-this-lt5.is c.part-item-then-this-lt5.is c.third-item.is c.last-item-then-this-lt5.is in
-    rw (ap type_in (is ∙ ap array four)) c.of_four.ensures.bad
-
-pub type_of-returns-in_default-as_slice-clause-bad : goal.type_of-returns-in_default-as_slice-clause-bad
-type_of-returns-in_default-as_slice-clause-bad t c =
+pub type_of-returns-in_default-as_slice : goal.type_of-returns-in_default-as_slice
+type_of-returns-in_default-as_slice t c =
     let vs = c.as_slice.result.now in
     let is = array_value c.args.value.now c.in-Array.list vs c.in-Array.is c.as_slice.ensures.value in
     elim c.in_default-as_slice.branch [

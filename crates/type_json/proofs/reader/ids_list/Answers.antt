@@ -10,8 +10,8 @@ use Rattle.type_json.proofs.reader.ids_list.Goals as goal
 abbrev whole : Option (List ℤ) → Option (Option (List ℤ))
 whole o = option_map (λ zs. Some zs) o
 
-pub returns-in_default-clause-bad : goal.returns-in_default-clause-bad
-returns-in_default-clause-bad c =
+pub returns-in_default : goal.returns-in_default
+returns-in_default c =
     λ _. ap whole
     (ap (traverse int32_in) (list_of-items_of (map view c.args.list.now))
     ∙ traverse_map-none view int32_in c.args.list.now c.loop-item.item-index c.item-item.result (omega arith) (ap (λ x. int32_in (view x)) (sym c.item-item.is) ∙ sym c.in_default.ensures))
@@ -23,8 +23,8 @@ loop-item-preserved c =
     (ap (λ x. int32_in (view x)) (sym c.item-item.is) ∙ sym c.in-Some.ensures)
     ∙ ap (λ l. Some l) (sym pushed)
 
-pub returns-clause-ok : goal.returns-clause-ok
-returns-clause-ok c =
+pub returns : goal.returns
+returns c =
     ap whole
     (ap (traverse int32_in) (list_of-items_of (map view c.args.list.now) ∙ ap (map view) (sym (take_all c.loop-item.item-index c.args.list.now (omega arith))))
     ∙ c.loop-item.invariant)

@@ -1,0 +1,10 @@
+use Rattle.std.proofs.Common.{◌≡◌, take, Some}
+use Rattle.std.specs.Prelude.{map}
+use Rattle.serde_json.specs.View.{view}
+use Rattle.arrow_flat.specs.Natives.{octets}
+use Rattle.type_json.specs.Values.{traverse}
+use Rattle.column_grammar.specs.Values.{bytes_in}
+use Rattle.column_read.proofs.view.buffer_list.Given as goal
+
+abbrev pub invariant-loop-item : goal.invariant-loop-item
+invariant-loop-item l = traverse bytes_in (map view (take l.item-index l.list)) ≡ Some (map octets l.buffers.items)
