@@ -1,5 +1,6 @@
-//! What no clause says of builders of byte strings and texts: that calls succeed with ample memory, and the generic calls through
+//! What no clause says of builders of binary values and of strings: that calls succeed with ample memory, and the generic calls through
 //! their bounds.
+use arrow_bytes::{BinaryArray, Utf8Array};
 use arrow_push::{TryExtend, TryPush};
 use arrow_push_bytes::{
     MutableBinaryArray, MutableBinaryValuesArray, MutableFixedSizeBinaryArray, MutableUtf8Array,
@@ -9,7 +10,7 @@ use arrow_types::{ArrowDataType, PolarsResult, Reason};
 use push_fixtures::Call::{
     Append, Extend, Fill, Push, PushRefused, Reserve, ShrinkToFit, Truncate,
 };
-use push_fixtures::{Call, gives};
+use push_fixtures::{Call, gives, is_copied};
 use std::alloc::Global;
 use std::test::Fail;
 
@@ -90,13 +91,22 @@ fn texts_stand_as_they_were_pushed(rt: HostRuntime) -> Result<(), Fail> {
     Ok(())
 }
 
+/// Whether these are the values of the array.
+fn has_values(array: &BinaryArray<i64>, values: &[&[u8]]) -> bool {
+    array.values_iter().eq(values.iter().copied())
+}
+
+/// Whether these are the strings of the array.
+fn has_texts(array: &Utf8Array<i32>, values: &[&str]) -> bool {
+    array.values_iter().eq(values.iter().copied())
+}
+
 /// Whether byte strings, one by one and from an iterator, give their array, without a mask.
 fn gives_values(builder: &mut MutableBinaryValuesArray<i64>) -> PolarsResult<bool> {
     builder.try_push(ABC)?;
     builder.try_extend([b"", DE])?;
     let array = builder.finish()?;
-    let is_right = array.values_iter().eq([ABC, b"", DE].iter().copied())
-        && array.validity().is_none();
+    let is_right = has_values(&array, &[ABC, b"", DE]) && array.validity().is_none();
     drop(array);
     Ok(is_right)
 }
@@ -115,8 +125,7 @@ fn gives_text_values(builder: &mut MutableUtf8ValuesArray<i32>) -> PolarsResult<
     builder.try_push("abc")?;
     builder.try_extend(["", "é"])?;
     let array = builder.finish()?;
-    let is_right = array.values_iter().eq(["abc", "", "é"].iter().copied())
-        && array.validity().is_none();
+    let is_right = has_texts(&array, &["abc", "", "é"]) && array.validity().is_none();
     drop(array);
     Ok(is_right)
 }
@@ -168,5 +177,13 @@ fn builders_are_filled_through_their_bounds(rt: HostRuntime) -> Result<(), Fail>
     let slots = [Some(AB), None];
     assert!(rt; gives_byte_strings(rt.alloc(), &[Fill(AB)], &slots)?);
     assert!(rt; gives_pairs(rt.alloc(), &[Fill(AB)], &slots)?);
+    Ok(())
+}
+
+#[test]
+fn builders_are_copied(rt: HostRuntime) -> Result<(), Fail> {
+    assert!(rt; is_copied(rt.alloc(), MutableBinaryArray::<i32>::new(rt.alloc()))?);
+    assert!(rt; is_copied(rt.alloc(), MutableUtf8Array::<i64>::new(rt.alloc()))?);
+    assert!(rt; is_copied(rt.alloc(), MutableUtf8ValuesArray::<i32>::new(rt.alloc()))?);
     Ok(())
 }

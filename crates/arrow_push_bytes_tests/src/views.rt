@@ -1,11 +1,11 @@
 //! What no clause says of builders of views: that calls succeed with ample memory, and that the clauses mean what builders of views
 //! do.
-use arrow_push::{TryExtend, TryPush};
+use arrow_push::{NullableBuilder, TryExtend, TryPush};
 use arrow_push_bytes::{ExtendFromLengths, MutableBinaryViewArray};
 use arrow_types::{ArrowDataType, PolarsResult};
 use arrow_views::{Utf8ViewArray, View, ViewBytes, ViewStr, ViewType};
 use push_fixtures::Call::{Push, PushNull, Reserve, ShrinkToFit};
-use push_fixtures::{Slots, gives};
+use push_fixtures::{Slots, gives, is_copied};
 use std::test::Fail;
 
 const LONG: &str = "abcdefghijklmnopqrstuvwxyz0123456789ABCDEFGHI";
@@ -100,5 +100,16 @@ fn a_long_value_goes_in_at_once(rt: HostRuntime) -> Result<(), Fail> {
     let is_right = takes_long(&mut builder);
     drop(builder);
     assert!(rt; is_right?);
+    Ok(())
+}
+
+#[test]
+fn builders_are_copied(rt: HostRuntime) -> Result<(), Fail> {
+    assert!(rt;
+        is_copied(
+            rt.alloc(),
+            MutableBinaryViewArray::<ViewStr>::new(rt.alloc())
+        )?
+    );
     Ok(())
 }

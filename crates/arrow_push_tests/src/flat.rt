@@ -3,7 +3,7 @@
 use arrow_push::{MutableBooleanArray, MutablePrimitiveArray, TryExtend};
 use arrow_types::{ArrowDataType, Mem, PolarsResult};
 use push_fixtures::Call::{Append, Extend, Fill, Push, Reserve, ShrinkToFit, Truncate};
-use push_fixtures::{Call, begins_its_mask, gives};
+use push_fixtures::{Call, begins_its_mask, gives, is_copied};
 use std::alloc::Global;
 use std::test::Fail;
 
@@ -133,5 +133,12 @@ fn slots_of_another_builder_go_in(rt: HostRuntime) -> Result<(), Fail> {
     assert!(rt; gives_numbers(rt.alloc(), &numbers, &[Some(7), None])?);
     let bits = [Push(Some(false)), Append(&[None])];
     assert!(rt; gives_bits(rt.alloc(), &bits, &[Some(false), None])?);
+    Ok(())
+}
+
+#[test]
+fn builders_are_copied(rt: HostRuntime) -> Result<(), Fail> {
+    assert!(rt; is_copied(rt.alloc(), MutablePrimitiveArray::<i64>::new(rt.alloc()))?);
+    assert!(rt; is_copied(rt.alloc(), MutableBooleanArray::new(rt.alloc()))?);
     Ok(())
 }

@@ -6,13 +6,14 @@ ghost use Rattle.arrow_push.specs.Items.{CanTakeSome};
 
 use arrow_buffers::Offset;
 use arrow_bytes::{BinaryArray, FixedSizeBinaryArray, Utf8Array};
-use arrow_flat::{BooleanArray, PrimitiveArray};
+use arrow_flat::{BooleanArray, PrimitiveArray, TryClone};
 use arrow_push::{
     MaskedBuilder, NullableBuilder, SolidValues, TryExtend, TryExtendFromSelf, TryPush,
     ValuesBuilder,
 };
 use arrow_types::{ArrowDataType, Mem, PolarsError, PolarsResult, Reason};
 use arrow_views::{BinaryViewArray, Utf8ViewArray};
+use std::alloc::Global;
 
 /// A call of a builder.
 #[derive(Clone, Copy)]
@@ -176,6 +177,16 @@ pub fn begins_its_mask<A: Copy, V: ValuesBuilder + SolidValues<A> + Drop>(
     let is_right = masks_after_a_null(&mut builder, value);
     drop(builder);
     is_right
+}
+
+/// Whether a builder is copied through the trait.
+pub fn is_copied<B: TryClone + Drop>(alloc: Global, builder: Mem<B>) -> PolarsResult<bool> {
+    let builder = builder?;
+    let copy = builder.try_clone(alloc);
+    let is_right = copy.is_ok();
+    drop(copy);
+    drop(builder);
+    Ok(is_right)
 }
 
 impl Slots<i32> for PrimitiveArray<i32> {
