@@ -11,7 +11,7 @@ use Rattle.std.proofs.lemmas.List.FromFn.{map-range_with_len_more, sum_by-map-ra
 use Rattle.std.proofs.lemmas.List.Sums.{sum_by-append, count_by-le-length}
 use Rattle.std.proofs.Math.Dec.{eqb}
 use Rattle.std.proofs.lemmas.Bool.{eq-eqb, ne_eqb, eqb-true, eqb-false}
-use Rattle.arrow_buffers.specs.Bits.{Bits, both, same, count_unset, ones_of, bit_of, bits_of, lead_of, cut_bits, byte_count}
+use Rattle.arrow_buffers.specs.Bits.{Bits, both, same, count_unset, ones_of, bit_of, bits_of, lead_of, cut_bits, bytes_for_bits}
 use Rattle.arrow_buffers.proofs.Windows.{cut_range, same_range, shifted, split_sum}
 use Rattle.std.proofs.lemmas.List.FromFn.{get_or-map-range_with_len, length-map-range_with_len}
 
@@ -27,11 +27,11 @@ seen_lead bytes s zero b e h = absurd (h refl)
 seen_lead bytes s (suc n) b e h = ap (λ x. x.lead) (sym e)
 
 -- the bytes that bits lie in
-pub bytes_of_none : (lead n : ℕ) → n ≡ 0 → byte_count lead n ≡ 0
+pub bytes_of_none : (lead n : ℕ) → n ≡ 0 → bytes_for_bits lead n ≡ 0
 bytes_of_none lead zero h = refl
 bytes_of_none lead (suc n) h = absurd (omega arith)
 
-pub bytes_of_some : (lead n : ℕ) → (n ≡ 0 → ⊥) → byte_count lead n ≡ (lead + n + 7) / 8
+pub bytes_of_some : (lead n : ℕ) → (n ≡ 0 → ⊥) → bytes_for_bits lead n ≡ (lead + n + 7) / 8
 bytes_of_some lead zero h = absurd (h refl)
 bytes_of_some lead (suc n) h = refl
 

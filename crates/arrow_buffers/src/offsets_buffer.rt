@@ -91,7 +91,7 @@ impl<O: Offset> OffsetsBuffer<O> {
         requires { offset + slots < count self.old }
         ensures { self.new ≡ take (slots + 1) (drop offset self.old) }
     {
-        let _count = self.items.len();
+        prove!(slots < self.items.len());
         self.items.slice(offset, slots + 1);
     }
 

@@ -9,8 +9,8 @@ use Rattle.arrow_buffers.specs.Bits.{Bits}
 use Rattle.arrow_buffers.specs.Offsets.{Ascend, AreOffsets, first_of, end_from, end_of}
 use Rattle.arrow_buffers.proofs.Ascending.{end_reaches}
 use Rattle.arrow_buffers.proofs.Windows.{window_again, window_length}
-use Rattle.arrow_bytes.specs.Binaries.{Binaries, AreTextsIf, slot_count, values_between, values_of}
-use Rattle.arrow_flat.specs.Pieces.{AreTexts}
+use Rattle.arrow_bytes.specs.Binaries.{Binaries, slot_count, values_between, values_of}
+use Rattle.arrow_flat.specs.Pieces.{AreTexts, AreTextsIf}
 use Rattle.arrow_flat.specs.Primitives.{MaskHasLength, HasBit}
 use Rattle.arrow_flat.proofs.Texts.{texts_window}
 use Rattle.arrow_flat.proofs.Pieces.{pieces_count}

@@ -1,5 +1,5 @@
 -- What a contract sees of an array of binary values or strings, given the number of an offset.
-use Rattle.std.specs.Prelude.{◌≡◌, ℕ, pred, suc, ◌≤◌, ℤ, Bool, true, false, List, length, map, take, drop, Option, Some, ⊤}
+use Rattle.std.specs.Prelude.{◌≡◌, ℕ, pred, suc, ◌≤◌, ℤ, Bool, true, false, List, length, map, take, drop, Option, Some}
 use Rattle.arrow_buffers.specs.Bits.{Bits}
 use Rattle.arrow_buffers.specs.Offsets.{to_nat, end_of}
 use Rattle.arrow_types.specs.Seen.{seen}
@@ -11,7 +11,8 @@ use Rattle.arrow_types.specs.declared.error.PolarsError.{PolarsError}
 use Rattle.arrow_types.specs.declared.error.PolarsError.TheVariants.{ComputeError}
 use Rattle.arrow_types.specs.declared.error.Reason.{Reason}
 use Rattle.arrow_types.specs.declared.error.Reason.TheVariants.{OffsetPastValues, NotUtf8}
-use Rattle.arrow_flat.specs.Pieces.{pieces, AreTexts}
+use Rattle.arrow_flat.specs.Pieces.{pieces}
+pub use Rattle.arrow_flat.specs.Pieces.{AreTextsIf}
 use Rattle.arrow_flat.specs.Primitives.{IsLaidOut, IsArray, MaskHasLength, cut_mask, masked_values}
 use Rattle.arrow_flat.specs.Refusals as flat
 
@@ -28,11 +29,6 @@ layout_in true true = physical.LargeUtf8
 layout_in true false = physical.Utf8
 layout_in false true = physical.LargeBinary
 layout_in false false = physical.Binary
-
--- Each value is UTF-8, where they are strings.
-abbrev pub AreTextsIf : Bool → List (List ℕ) → Type 0
-AreTextsIf true values = AreTexts values
-AreTextsIf false values = ⊤
 
 module _ {O : Type 0} where
   -- How many slots there are: one for each offset but the last.

@@ -150,7 +150,7 @@ impl FixedSizeBinaryArray {
         ensures { IsSound self.now }
     {
         validity::invariant(&self.validity);
-        let _size = self.size;
+        prove!(0 < self.size);
     }
 
     /// The whole type, extensions included.
@@ -349,6 +349,6 @@ fn slice_chunks(bytes: &mut Buffer<u8>, size: usize, offset: usize, length: usiz
     requires { offset * size + length * size ≤ count bytes.old }
     ensures { bytes.new ≡ take (length * size) (drop (offset * size) bytes.old) }
 {
-    let _count = bytes.len();
+    prove!(bytes.len() >= offset * size + length * size);
     bytes.slice(offset * size, length * size);
 }

@@ -5,7 +5,8 @@ ghost use Rattle.arrow_types.specs.Seen.{seen};
 ghost use Rattle.arrow_types.specs.Types.{physical_of};
 ghost use Rattle.std.specs.Option.{option_copied};
 ghost use Rattle.arrow_flat.specs.Primitives.{MaskHasLength, valid_at, unset_in};
-ghost use Rattle.arrow_bytes.specs.Binaries.{Binaries, layout_in, AreTextsIf, slot_count, values_between, values_of, EndsWithin, PartsFit, IsSound, Refused, cut, with_mask};
+ghost use Rattle.arrow_flat.specs.Pieces.{AreTextsIf};
+ghost use Rattle.arrow_bytes.specs.Binaries.{Binaries, layout_in, slot_count, values_between, values_of, EndsWithin, PartsFit, IsSound, Refused, cut, with_mask};
 
 use crate::piece::{are_texts_if, piece};
 use crate::stored::is_stored_as;
@@ -227,7 +228,7 @@ impl<K: ViewType, O: Offset> OffsetArray<K, O> {
         requires { offset + length ≤ slot_count self.old }
         ensures { self.new ≡ cut self.old offset length }
     {
-        self.offsets.len_proxy();
+        prove!(offset <= self.offsets.len_proxy());
         slice_mask(&mut self.validity, offset, length);
         self.offsets.slice(offset, length);
     }

@@ -1,7 +1,8 @@
 //! The bytes between offsets.
 ghost use Rattle.std.specs.Prelude.{◌≡◌, ◌↔◌, ◌+◌, ◌-◌, ◌<◌, ◌≤◌, length as count, take, drop, slice_get, Some, IfSome, IsUtf8, IsTrue};
 ghost use Rattle.arrow_flat.specs.Pieces.{AreTexts};
-ghost use Rattle.arrow_bytes.specs.Binaries.{values_between, AreTextsIf, EndsWithin};
+ghost use Rattle.arrow_flat.specs.Pieces.{AreTextsIf};
+ghost use Rattle.arrow_bytes.specs.Binaries.{values_between, EndsWithin};
 
 use arrow_buffers::{Offset, OffsetsBuffer};
 

@@ -1,5 +1,5 @@
-//! What no clause says: that calls succeed with ample memory, which test of a constructor comes first, and the generic calls through
-//! their bounds.
+//! What no clause says: that calls succeed with ample memory, which test of a constructor comes
+//! first, and the generic calls through their bounds.
 
 use crate::halves::{Counted, Counts, counts_of, has_halves};
 use arrow_buffers::{Bitmap, Buffer, Offset, OffsetError, Offsets, OffsetsBuffer};
@@ -86,7 +86,8 @@ fn array_of<K: ViewType, O: Offset>(
     Ok(OffsetArray::try_new(dtype, offsets, values, mask))
 }
 
-/// Whether there are parts, of which the outcome is this refusal, or an array where no refusal is wanted.
+/// Whether there are parts, of which the outcome is this refusal, or an array where no refusal is
+/// wanted.
 fn parts_end_as<T: Drop>(
     made: Result<PolarsResult<T>, OffsetError>,
     wanted: Option<Reason>,

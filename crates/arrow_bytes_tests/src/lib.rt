@@ -1,4 +1,5 @@
-//! What no clause of the arrays of binary values and of strings says, with offsets, of one size, and by views.
+//! What no clause of the arrays of binary values and of strings says, with offsets, of one size,
+//! and by views.
 #![tactic(auto)]
 
 #[cfg(test)]

@@ -1,4 +1,5 @@
-//! What no clause says: that values are packed with ample memory, where the next value would pass the limit into a new buffer.
+//! What no clause says: that values are packed with ample memory, where the next value would pass
+//! the limit into a new buffer.
 
 use arrow_buffers::Buffer;
 use arrow_types::Mem;
@@ -8,14 +9,16 @@ use std::test::Fail;
 
 const BYTES: &[u8] = b"twenty bytes of text";
 
-/// Whether the views name the first and the second value of the first buffer, and the first of the second.
+/// Whether the views name the first and the second value of the first buffer, and the first of the
+/// second.
 fn are_packed(first: View, second: View, third: View) -> bool {
     first == View::new_long(20, *b"twen", 0, 0)
         && second == View::new_long(20, *b"twen", 0, 20)
         && third == View::new_long(13, *b"twen", 1, 0)
 }
 
-/// The buffers of two values of twenty bytes and one of thirteen, and whether their views name them.
+/// The buffers of two values of twenty bytes and one of thirteen, and whether their views name
+/// them.
 fn packed(alloc: Global) -> Mem<(Vec<Buffer<u8>>, bool)> {
     let mut packer = ViewPacker::new(alloc, 40)?;
     let first = packer.push(BYTES)?;

@@ -1,4 +1,5 @@
-//! What no clause says: that calls succeed with ample memory, and that the clauses mean what columns by views do.
+//! What no clause says: that calls succeed with ample memory, and that the clauses mean what
+//! columns by views do.
 
 use crate::halves::{Counted, Counts, counts_of, has_halves};
 use arrow_buffers::{Bitmap, Buffer};
@@ -44,7 +45,8 @@ fn parts(alloc: Global, views: &[View], bytes: &[u8], bits: &[bool]) -> Mem<Part
     Ok((views, buffers, mask))
 }
 
-/// An array of these views over one buffer, under a mask, of the type by views or the one by offsets.
+/// An array of these views over one buffer, under a mask, of the type by views or the one by
+/// offsets.
 fn array_of<T: ViewType>(
     alloc: Global,
     by_offsets: bool,
@@ -118,7 +120,8 @@ const RANGE: Option<Reason> = Some(Reason::ViewRange);
 
 const UTF8: Option<Reason> = Some(Reason::NotUtf8);
 
-/// A view, its buffer, its mask, whether the type is the one by offsets, and the refusals of binary values and of strings.
+/// A view, its buffer, its mask, whether the type is the one by offsets, and the refusals of binary
+/// values and of strings.
 type Case<V> = (
     V,
     &'static [u8],

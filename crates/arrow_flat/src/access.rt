@@ -4,7 +4,10 @@ ghost use Rattle.std.specs.declared.option.Option.{Option};
 ghost use Rattle.arrow_buffers.specs.Bits.{Bits};
 ghost use Rattle.arrow_flat.specs.Primitives.{MaskHasLength, valid_at, masked_values};
 
+use crate::TryClone;
 use arrow_buffers::Buffer;
+use arrow_types::Mem;
+use std::alloc::Global;
 
 /// What contracts see of a binary value or a string: its bytes, as a list.
 pub type ByteString = Buffer<u8>;
@@ -112,5 +115,17 @@ impl<I, S, A: ArrayAccessor<I, S>> Access<Option<I>, Option<S>> for Slots<A> {
 
     fn item(&self, i: usize) -> Option<I> {
         self.0.get(i)
+    }
+}
+
+impl<A: Copy> TryClone for Values<A> {
+    fn try_clone(&self, _alloc: Global) -> Mem<Values<A>> {
+        Ok(Values(self.0))
+    }
+}
+
+impl<A: Copy> TryClone for Slots<A> {
+    fn try_clone(&self, _alloc: Global) -> Mem<Slots<A>> {
+        Ok(Slots(self.0))
     }
 }

@@ -3,7 +3,9 @@ ghost use Rattle.std.specs.Prelude.{◌≡◌, length, Some, IfSome};
 ghost use Rattle.std.specs.Iterator.{at_most, item_count, UpTo, YieldsFirstBy, YieldsLastBy};
 ghost use Rattle.std.specs.Iterator.SizeHint.{IsWithinCount};
 
-use crate::{Access, ArrayAccessor, NativeType, PrimitiveArray, Slots, Values};
+use crate::{Access, ArrayAccessor, NativeType, PrimitiveArray, Slots, TryClone, Values};
+use arrow_types::Mem;
+use std::alloc::Global;
 use std::iter::FusedIterator;
 use std::marker::{Model, PhantomData};
 
@@ -113,3 +115,16 @@ impl<I, S, A: Access<I, S>> ExactSizeIterator for AccessIter<A, I, S> {
 }
 
 impl<I, S, A: Access<I, S>> FusedIterator for AccessIter<A, I, S> {}
+
+/// The copy has the items that are left.
+impl<I, S, A: Access<I, S> + TryClone> TryClone for AccessIter<A, I, S> {
+    fn try_clone(&self, alloc: Global) -> Mem<AccessIter<A, I, S>> {
+        let access = self.access.try_clone(alloc)?;
+        Ok(AccessIter {
+            access,
+            item: PhantomData,
+            front: self.front,
+            back: self.back,
+        })
+    }
+}

@@ -93,6 +93,13 @@ impl<I, E, S, A: MakingAccessor<I, E, S>> MadeValues<A, I, E, S> {
             alloc,
         }
     }
+
+    /// The same values again.
+    pub(crate) fn again(&self) -> MadeValues<A, I, E, S>
+        ensures { result.array ≡ self.now.array }
+    {
+        MadeValues::new(self.alloc, self.array)
+    }
 }
 
 impl<I, E, S, A: MakingAccessor<I, E, S>> MadeAccess<Result<I, E>, S> for MadeValues<A, I, E, S> {
@@ -133,6 +140,13 @@ impl<I, E, S, A: MakingAccessor<I, E, S>> MadeSlots<A, I, E, S> {
             item: PhantomData,
             alloc,
         }
+    }
+
+    /// The same slots again.
+    pub(crate) fn again(&self) -> MadeSlots<A, I, E, S>
+        ensures { result.array ≡ self.now.array }
+    {
+        MadeSlots::new(self.alloc, self.array)
     }
 }
 

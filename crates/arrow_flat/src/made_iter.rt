@@ -3,7 +3,8 @@ ghost use Rattle.std.specs.Prelude.{◌≡◌, length, Some, IfSome};
 ghost use Rattle.std.specs.Iterator.{at_most, item_count, UpTo};
 ghost use Rattle.std.specs.Iterator.SizeHint.{IsWithinCount};
 
-use crate::{MadeAccess, MadeSlots, MadeValues, MakingAccessor};
+use crate::{MadeAccess, MadeSlots, MadeValues, MakingAccessor, TryClone};
+use arrow_types::Mem;
 use std::alloc::Global;
 use std::iter::FusedIterator;
 use std::marker::{Model, PhantomData};
@@ -138,3 +139,27 @@ impl<I, S, A: MadeAccess<I, S>> ExactSizeIterator for MadeIter<A, I, S> {
 }
 
 impl<I, S, A: MadeAccess<I, S>> FusedIterator for MadeIter<A, I, S> {}
+
+/// The copy has what is left.
+impl<I, E, S, A: MakingAccessor<I, E, S>> TryClone for MadeSlotsIter<A, I, E, S> {
+    fn try_clone(&self, _alloc: Global) -> Mem<MadeSlotsIter<A, I, E, S>> {
+        Ok(MadeIter {
+            access: self.access.again(),
+            item: PhantomData,
+            front: self.front,
+            back: self.back,
+        })
+    }
+}
+
+/// The copy has what is left.
+impl<I, E, S, A: MakingAccessor<I, E, S>> TryClone for MadeValuesIter<A, I, E, S> {
+    fn try_clone(&self, _alloc: Global) -> Mem<MadeValuesIter<A, I, E, S>> {
+        Ok(MadeIter {
+            access: self.access.again(),
+            item: PhantomData,
+            front: self.front,
+            back: self.back,
+        })
+    }
+}

@@ -47,12 +47,14 @@ impl<T: NativeType> Model for PrimitiveArray<T> {
 
     ghost view = { λ a. record { dtype = a.dtype; values = a.values; mask = a.validity } };
 
-    ghost invariant = { λ a. IsLaidOut (physical.Primitive T.PRIMITIVE) a.dtype a.validity (length a.values) };
+    ghost invariant = { λ a.
+        IsLaidOut (physical.Primitive T.PRIMITIVE) a.dtype a.validity (length a.values) };
 }
 
 impl<T: NativeType> PrimitiveArray<T> {
     ghost use Rattle.std.specs.Option.{option_copied};
-    ghost use Rattle.arrow_flat.specs.Primitives.{Primitives, slots, valid_at, unset_in, cut, with_mask};
+    ghost use Rattle.arrow_flat.specs.Primitives.{Primitives, slots, valid_at, unset_in};
+    ghost use Rattle.arrow_flat.specs.Primitives.{cut, with_mask};
     ghost use Rattle.arrow_flat.specs.Refusals.{Refused};
 
     /// The array of these parts. Takes no memory.

@@ -137,6 +137,26 @@ fn bits_come_in_order_from_both_ends(rt: HostRuntime) -> Result<(), Fail> {
     Ok(())
 }
 
+/// Whether two copies of an iterator that is past the first slot give the others.
+fn copies_go_on(alloc: Global, array: &Int32Array) -> Mem<bool> {
+    let mut slots = array.iter();
+    slots.next();
+    let copies = twice(alloc, &slots);
+    drop(slots);
+    let (first, second) = copies?;
+    Ok(gives(first, &[None, Some(5)]) && gives(second, &[None, Some(5)]))
+}
+
+#[test]
+fn iterators_are_copied(rt: HostRuntime) -> Result<(), Fail> {
+    let alloc = rt.alloc();
+    let array = numbers(alloc, true, Some(3))?;
+    let is_copied = copies_go_on(alloc, &array);
+    drop(array);
+    assert!(rt; is_copied?);
+    Ok(())
+}
+
 /// Two values of any width.
 fn zero_values<T: NativeType>(alloc: Global) -> Mem<Buffer<T>> {
     let mut values = Vec::new(alloc);

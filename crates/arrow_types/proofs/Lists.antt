@@ -41,3 +41,5 @@ module _ (U : Option FieldList) (fs all : List Field) (i : ℕ) where
 
   pub done : drop i fs ≡ [] → U ≡ option_map (λ r. chained (seen_fields all) r) (underlying_fields (seen_fields (drop i fs))) → Some (seen_fields all) ≡ U
   done d h = sym (h ∙ ap (λ l. option_map (λ r. chained (seen_fields all) r) (underlying_fields (seen_fields l))) d ∙ ap (λ l. Some l) (chained_none (seen_fields all)))
+
+pub ruleset list_rules = (more_done, chained_none)

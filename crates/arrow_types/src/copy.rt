@@ -100,7 +100,12 @@ impl Field {
 
     /// The field with another type.
     pub(crate) fn with_dtype(&self, alloc: Global, dtype: ArrowDataType) -> Mem<Field>
-        ensures { IfOk result (λ f. f ≡ record { name = self.now.name; dtype = dtype; is_nullable = self.now.is_nullable; metadata = self.now.metadata }) }
+        ensures { IfOk result (λ f. f ≡ record {
+          name = self.now.name;
+          dtype = dtype;
+          is_nullable = self.now.is_nullable;
+          metadata = self.now.metadata;
+        }) }
     {
         let name = self.name.try_clone(alloc)?;
         let metadata = clone_metadata(alloc, &self.metadata)?;

@@ -4,7 +4,8 @@ use crate::metadata::SharedMetadata;
 use crate::text::PlSmallStr;
 use sqlite_items::{Boxed, Items};
 
-/// How a union holds its children: a slot of the selected child by an offset, or at the slot's own position.
+/// How a union holds its children: a slot of the selected child by an offset, or at the slot's own
+/// position.
 #[derive(Clone, Copy, Debug, PartialEq, Eq, Hash)]
 pub enum UnionMode {
     Dense,

@@ -27,7 +27,8 @@ pub enum Reason {
     NotUtf8,
     /// The size isn't 0 and doesn't divide the values' length.
     NotMultiple,
-    /// A view, null or not, names no buffer, ends past its buffer, has another prefix than its bytes, or has padding that isn't 0.
+    /// A view, null or not, names no buffer, ends past its buffer, has another prefix than its
+    /// bytes, or has padding that isn't 0.
     ViewRange,
     /// A child's whole type isn't the field's.
     ChildTypeDiffers,
@@ -51,9 +52,11 @@ pub enum Reason {
     IdCount,
     /// An id is outside 0 to 127.
     IdRange,
-    /// With ids a type number is negative; without, it is negative or not below the count of fields.
+    /// With ids a type number is negative; without, it is negative or not below the count of
+    /// fields.
     TypeRange,
-    /// No array has the type: a union in it has no fields, a fixed-size binary size 0, or another rule on types is broken.
+    /// No array has the type: a union in it has no fields, a fixed-size binary size 0, or another
+    /// rule on types is broken.
     NotCarried,
     /// An offset is negative or not below its selected child's length.
     DenseOffset,

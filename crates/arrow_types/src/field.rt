@@ -16,7 +16,12 @@ pub const DTYPE_CATEGORICAL: &str = "_PL_CATEGORICAL";
 impl Field {
     /// A field without metadata.
     pub fn new(name: PlSmallStr, dtype: ArrowDataType, is_nullable: bool) -> Field
-        ensures { result ≡ record { name = name; dtype = dtype; is_nullable = is_nullable; metadata = None } }
+        ensures { result ≡ record {
+          name = name;
+          dtype = dtype;
+          is_nullable = is_nullable;
+          metadata = None;
+        } }
     {
         Field {
             name,

@@ -34,7 +34,8 @@ fn hash_type<H: Hasher>(t: &ArrowDataType, state: &mut H)
 /// Hashes the parts of a nested type.
 #[cycle(hash)]
 fn hash_nested<H: Hasher>(t: &ArrowDataType, state: &mut H)
-    ensures { is_nested (seen t.now) ≡ true → state.new ≡ fold H.write state.old (parts_writes (seen t.now)) }
+    ensures { is_nested (seen t.now) ≡ true
+        → state.new ≡ fold H.write state.old (parts_writes (seen t.now)) }
 {
     match t {
         ArrowDataType::List(field) | ArrowDataType::LargeList(field) => {
@@ -62,7 +63,8 @@ fn hash_nested<H: Hasher>(t: &ArrowDataType, state: &mut H)
 
 /// Hashes the parts of a type that isn't nested.
 fn hash_plain<H: Hasher>(t: &ArrowDataType, state: &mut H)
-    ensures { is_nested (seen t.now) ≡ false → state.new ≡ fold H.write state.old (parts_writes (seen t.now)) }
+    ensures { is_nested (seen t.now) ≡ false
+        → state.new ≡ fold H.write state.old (parts_writes (seen t.now)) }
 {
     match t {
         ArrowDataType::Timestamp(unit, zone) => {

@@ -26,7 +26,8 @@ impl ArrowDataType {
     /// The type of a list's items: of `List`, `LargeList` and `FixedSizeList`, else None.
     #[tactic(auto, using(crate::proofs::SeenAt::seen_rules, crate::proofs::Others::child_other))]
     pub fn inner_dtype(&self) -> Option<&ArrowDataType>
-        ensures { option_map (λ t. seen t.now) result ≡ option_map field_type (child_of (seen self.now)) }
+        ensures { option_map (λ t. seen t.now) result
+            ≡ option_map field_type (child_of (seen self.now)) }
     {
         match self {
             ArrowDataType::List(field)
@@ -90,7 +91,8 @@ impl ArrowDataType {
         size: usize,
         is_nullable: bool,
     ) -> Mem<ArrowDataType>
-        ensures { IfOk result (λ t. seen t ≡ T.fixed_size_list (T.field (codes "item") (seen self) is_nullable None) size) }
+        ensures { IfOk result (λ t. seen t
+            ≡ T.fixed_size_list (T.field (codes "item") (seen self) is_nullable None) size) }
     {
         let name = PlSmallStr::try_from_str(alloc, "item")?;
         let field = Boxed::new(alloc, Field::new(name, self, is_nullable))?;

@@ -23,7 +23,8 @@ pub struct SharedMetadata {
     map: Rc<Metadata>,
 }
 
-/// By hand, so that each place where a value may end has one call to prove, and not the drop of every field.
+/// By hand, so that each place where a value may end has one call to prove, and not the drop of
+/// every field.
 impl Drop for SharedMetadata {
     fn drop(self) {
         let SharedMetadata { map: _ } = self;
@@ -69,7 +70,9 @@ impl SharedMetadata {
 impl PartialEq for SharedMetadata {
     ghost eq = { pointwise (λ p q. pointwise nat_eq p.0 q.0 && pointwise nat_eq p.1 q.1) };
 
-    ghost laws = { partial_equiv_from_equiv (lists_equiv (and_equiv (on_equiv (λ p. p.0) nat_list_eq_equiv) (on_equiv (λ p. p.1) nat_list_eq_equiv))) };
+    ghost laws = { partial_equiv_from_equiv (lists_equiv (and_equiv
+        (on_equiv (λ p. p.0) nat_list_eq_equiv)
+        (on_equiv (λ p. p.1) nat_list_eq_equiv))) };
 
     fn eq(&self, other: &SharedMetadata) -> bool {
         self.map == other.map
@@ -77,13 +80,17 @@ impl PartialEq for SharedMetadata {
 }
 
 impl Eq for SharedMetadata {
-    ghost laws = { lists_equiv (and_equiv (on_equiv (λ p. p.0) nat_list_eq_equiv) (on_equiv (λ p. p.1) nat_list_eq_equiv)) };
+    ghost laws = { lists_equiv (and_equiv
+        (on_equiv (λ p. p.0) nat_list_eq_equiv)
+        (on_equiv (λ p. p.1) nat_list_eq_equiv)) };
 }
 
 impl Hash for SharedMetadata {
     ghost hash_input = { fed.slice (λ p. fed.str p.0 ++ fed.str p.1) };
 
-    ghost respects_eq = { (items_Alike (and-Alike (on_Alike (λ p. p.0) (same_Alike fed.str bytes_decides)) (on_Alike (λ p. p.1) (same_Alike fed.str bytes_decides)))).fed };
+    ghost respects_eq = { (items_Alike (and-Alike
+        (on_Alike (λ p. p.0) (same_Alike fed.str bytes_decides))
+        (on_Alike (λ p. p.1) (same_Alike fed.str bytes_decides)))).fed };
 
     fn hash<H: Hasher>(&self, state: &mut H) {
         self.map.hash(state);
@@ -94,7 +101,8 @@ const EXTENSION_NAME: &str = "ARROW:extension:name";
 
 const EXTENSION_METADATA: &str = "ARROW:extension:metadata";
 
-/// The name and the metadata of the extension that a field's metadata tells of; None where it names none.
+/// The name and the metadata of the extension that a field's metadata states; None where it names
+/// none.
 pub fn get_extension(
     alloc: Global,
     metadata: &Metadata,

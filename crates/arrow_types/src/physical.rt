@@ -10,7 +10,8 @@ use sqlite_items::Boxed;
 use std::alloc::Global;
 
 impl ArrowDataType {
-    /// The layout of the type's columns, which for an extension is that of its inner type; None for `Unknown`.
+    /// The layout of the type's columns, which for an extension is that of its inner type; None for
+    /// `Unknown`.
     pub fn to_physical_type(&self) -> Option<PhysicalType>
         ensures { result ≡ physical_of (seen self.now) }
     {
@@ -57,9 +58,10 @@ impl ArrowDataType {
         }
     }
 
-    /// The type of the numbers in the layout, with a nested type's fields kept; None where an interval of months, days and nanoseconds, a union or a map is met.
+    /// The type of the numbers in the layout, with a nested type's fields kept; None where an
+    /// interval of months, days and nanoseconds, a union or a map is met.
     #[cycle(underlying)]
-    #[tactic(auto, using(crate::proofs::SeenAt::seen_rules, crate::proofs::Lists::more_done, crate::proofs::Lists::chained_none))]
+    #[tactic(auto, using(crate::proofs::SeenAt::seen_rules, crate::proofs::Lists::list_rules))]
     pub fn underlying_physical_type(&self, alloc: Global) -> Mem<Option<ArrowDataType>>
         ensures { IfOk result (λ o. option_map seen o ≡ underlying (seen self.now)) }
     {
@@ -114,7 +116,7 @@ fn underlying_item(alloc: Global, field: &Field) -> Mem<Option<Boxed<Field>>>
 }
 
 #[cycle(underlying)]
-#[tactic(auto, using(crate::proofs::SeenAt::seen_rules, crate::proofs::Lists::more_done, crate::proofs::Lists::chained_none))]
+#[tactic(auto, using(crate::proofs::SeenAt::seen_rules, crate::proofs::Lists::list_rules))]
 fn underlying_field(alloc: Global, field: &Field) -> Mem<Option<Field>>
     ensures { IfOk result (λ o. option_map seen_field o ≡ underlying_field (seen_field field.now)) }
 {
@@ -125,9 +127,10 @@ fn underlying_field(alloc: Global, field: &Field) -> Mem<Option<Field>>
 }
 
 #[cycle(underlying)]
-#[tactic(auto, using(crate::proofs::SeenAt::seen_rules, crate::proofs::Lists::more_done, crate::proofs::Lists::chained_none))]
+#[tactic(auto, using(crate::proofs::SeenAt::seen_rules, crate::proofs::Lists::list_rules))]
 fn underlying_fields(alloc: Global, fields: &[Field]) -> Mem<Option<Fields>>
-    ensures { IfOk result (λ o. option_map seen_fields o ≡ underlying_fields (seen_fields fields.now)) }
+    ensures { IfOk result (λ o. option_map seen_fields o
+        ≡ underlying_fields (seen_fields fields.now)) }
 {
     let mut all = Fields::new(alloc);
     for field in fields {

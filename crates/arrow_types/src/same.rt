@@ -80,7 +80,9 @@ fn is_same_nested(a: &ArrowDataType, b: &ArrowDataType) -> bool
 
 /// Whether two types of one variant that isn't nested are equal in all their parts.
 fn is_same_plain(a: &ArrowDataType, b: &ArrowDataType) -> bool
-    ensures { is_nested (seen a.now) ≡ false → variant_number (seen a.now) ≡ variant_number (seen b.now) → IsTrue result ↔ (a.now ≡ b.now) }
+    ensures { is_nested (seen a.now) ≡ false
+        → variant_number (seen a.now) ≡ variant_number (seen b.now)
+        → IsTrue result ↔ (a.now ≡ b.now) }
 {
     match a {
         ArrowDataType::Timestamp(unit, zone) => match b {
@@ -125,7 +127,10 @@ fn is_same_plain(a: &ArrowDataType, b: &ArrowDataType) -> bool
 
 /// Whether two fields are equal beside their types.
 fn is_same_label(a: &Field, b: &Field) -> bool
-    ensures { IsTrue result ↔ ((a.now.name ≡ b.now.name) × (a.now.is_nullable ≡ b.now.is_nullable) × (a.now.metadata ≡ b.now.metadata)) }
+    ensures { IsTrue result
+        ↔ ((a.now.name ≡ b.now.name)
+        × (a.now.is_nullable ≡ b.now.is_nullable)
+        × (a.now.metadata ≡ b.now.metadata)) }
 {
     a.name == b.name && a.is_nullable == b.is_nullable && is_same_metadata(&a.metadata, &b.metadata)
 }
@@ -232,7 +237,8 @@ impl Eq for ArrowDataType {
 impl PartialEq for Field {
     ghost eq = { λ a b. field_eq (seen_field a) (seen_field b) };
 
-    ghost laws = { partial_equiv_from_equiv (on_equiv seen_field (decided field_eq fields_decide)) };
+    ghost laws = { partial_equiv_from_equiv
+        (on_equiv seen_field (decided field_eq fields_decide)) };
 
     fn eq(&self, other: &Field) -> bool {
         is_same_field(self, other)
@@ -260,7 +266,8 @@ impl Eq for UnionType {
 impl PartialEq for ExtensionType {
     ghost eq = { λ a b. type_eq (seen_extension a) (seen_extension b) };
 
-    ghost laws = { partial_equiv_from_equiv (on_equiv seen_extension (decided type_eq types_decide)) };
+    ghost laws = { partial_equiv_from_equiv
+        (on_equiv seen_extension (decided type_eq types_decide)) };
 
     fn eq(&self, other: &ExtensionType) -> bool {
         is_same_extension(self, other)

@@ -48,7 +48,8 @@ pub fn is_same_schema(a: &ArrowSchema, b: &ArrowSchema) -> bool
 impl PartialEq for ArrowSchema {
     ghost eq = { λ a b. fields_eq (seen_schema a) (seen_schema b) };
 
-    ghost laws = { partial_equiv_from_equiv (on_equiv seen_schema (decided fields_eq field_lists_decide)) };
+    ghost laws = { partial_equiv_from_equiv
+        (on_equiv seen_schema (decided fields_eq field_lists_decide)) };
 
     fn eq(&self, other: &ArrowSchema) -> bool {
         is_same_schema(self, other)
@@ -62,7 +63,9 @@ impl Eq for ArrowSchema {
 impl Hash for ArrowSchema {
     ghost hash_input = { λ a. fields_writes (seen_schema a) };
 
-    ghost respects_eq = { (on_Alike seen_schema (same_Alike fields_writes field_lists_decide)).fed };
+    ghost respects_eq = { (on_Alike
+        seen_schema
+        (same_Alike fields_writes field_lists_decide)).fed };
 
     fn hash<H: Hasher>(&self, state: &mut H) {
         hash_fields(self.fields.as_slice(), state);

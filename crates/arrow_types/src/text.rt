@@ -19,7 +19,8 @@ pub struct PlSmallStr {
     text: RcStr,
 }
 
-/// By hand, so that each place where a value may end has one call to prove, and not the drop of every field.
+/// By hand, so that each place where a value may end has one call to prove, and not the drop of
+/// every field.
 impl Drop for PlSmallStr {
     fn drop(self) {
         let PlSmallStr { text: _ } = self;

@@ -3,7 +3,7 @@ use Rattle.std.proofs.Common.{◌≡◌, ℕ, zero, suc, ◌+◌, ◌≤◌, Opt
 use Rattle.std.specs.List.{AllByRecursion}
 use Rattle.std.specs.Prelude.{IsUtf8}
 use Rattle.std.proofs.lemmas.List.{length-map, take-map, drop-map}
-use Rattle.arrow_flat.specs.Pieces.{AreTexts}
+use Rattle.arrow_flat.specs.Pieces.{AreTexts, AreTextsIf}
 use Rattle.arrow_buffers.specs.Bits.{Bits}
 use Rattle.arrow_buffers.proofs.Windows.{window_length}
 use Rattle.arrow_types.specs.declared.datatype.ArrowDataType.{ArrowDataType}
@@ -14,7 +14,7 @@ use Rattle.arrow_flat.specs.Natives.{IsStoredFlat}
 use Rattle.arrow_flat.specs.Primitives.{MaskHasLength, IsLed, cut_mask}
 use Rattle.arrow_flat.specs.Views.{View, IsView, view_bytes}
 use Rattle.arrow_flat.proofs.Masked.{slots_length, cut_fits}
-use Rattle.arrow_views.specs.ViewArrays.{ViewArray, IsViewArray, IsSound, physical_view, AreTextsIf, values_in, values_of, slots}
+use Rattle.arrow_views.specs.ViewArrays.{ViewArray, IsViewArray, IsSound, physical_view, values_in, values_of, slots}
 
 module _ {A : Type 0} (P : A → Type 0) where
   all_take : (n : ℕ) (xs : List A) → AllByRecursion P xs → AllByRecursion P (take n xs)

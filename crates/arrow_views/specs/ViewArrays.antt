@@ -13,7 +13,7 @@ use Rattle.arrow_types.specs.declared.error.PolarsError.TheVariants.{ComputeErro
 use Rattle.arrow_types.specs.declared.error.Reason.{Reason}
 use Rattle.arrow_types.specs.declared.error.Reason.TheVariants.{ViewRange, NotUtf8}
 use Rattle.arrow_flat.specs.Natives.{octets}
-use Rattle.arrow_flat.specs.Pieces.{AreTexts}
+pub use Rattle.arrow_flat.specs.Pieces.{AreTextsIf}
 use Rattle.arrow_flat.specs.Primitives.{IsArray, IsLaidOut, MaskHasLength, cut_mask, masked_values}
 use Rattle.arrow_flat.specs.Refusals as flat
 use Rattle.arrow_flat.specs.Views.{View, IsView, view_bytes}
@@ -35,11 +35,6 @@ AreViews buffers views = AllByRecursion (IsView buffers) views
 
 abbrev pub values_in : List (List ℕ) → List View → List (List ℕ)
 values_in buffers views = map (view_bytes buffers) views
-
--- Each value is UTF-8, where the values are texts.
-abbrev pub AreTextsIf : Bool → List (List ℕ) → Type 0
-AreTextsIf true values = AreTexts values
-AreTextsIf false values = Unit {0}
 
 -- What every such array keeps.
 pub record IsViewArray (text : Bool) (t : ArrowDataType) (m : Option Bits) (views : List View) (buffers : List (List ℕ)) : Type 0 where

@@ -2,10 +2,10 @@
 ghost use Rattle.std.specs.Prelude.{◌≡◌, ◌↔◌, ◌≤◌, ◌<◌, ℕ, List, true, IsUtf8, length as count, map, IsTrue, IfOk};
 ghost use Rattle.std.specs.Str.{IsCharBoundary};
 ghost use Rattle.arrow_flat.specs.Natives.{octets};
-ghost use Rattle.arrow_flat.specs.Pieces.{AreTexts};
+ghost use Rattle.arrow_flat.specs.Pieces.{AreTexts, AreTextsIf};
 ghost use Rattle.arrow_flat.specs.Views.{IsView, view_bytes, view_length};
 ghost use Rattle.arrow_views.specs.TextEnds.{AreEndsOf};
-ghost use Rattle.arrow_views.specs.ViewArrays.{AreViews, AreTextsIf, values_in};
+ghost use Rattle.arrow_views.specs.ViewArrays.{AreViews, values_in};
 
 use crate::View;
 use crate::text_ends::TextEnds;

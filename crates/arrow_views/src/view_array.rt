@@ -5,7 +5,8 @@ ghost use Rattle.arrow_types.specs.Types.{physical_of};
 ghost use Rattle.arrow_flat.specs.Natives.{octets};
 ghost use Rattle.std.specs.Option.{option_copied};
 ghost use Rattle.arrow_flat.specs.Primitives.{IsLaidOut, MaskHasLength, valid_at, unset_in};
-ghost use Rattle.arrow_views.specs.ViewArrays.{IsViewArray, IsSound, Refused, RefusedIn, view_array, physical_view, AreViews, AreTextsIf, values_in, values_of, cut, with_mask};
+ghost use Rattle.arrow_flat.specs.Pieces.{AreTextsIf};
+ghost use Rattle.arrow_views.specs.ViewArrays.{IsViewArray, IsSound, Refused, RefusedIn, view_array, physical_view, AreViews, values_in, values_of, cut, with_mask};
 
 use crate::check::are_views;
 use crate::text::{are_texts_if, are_texts_if_in, value_of};

@@ -33,8 +33,10 @@ fn inline_json(alloc: Global, slot: &View) -> Mem<Value>
 
 /// How long a value is, which buffer holds it, and where it begins there.
 fn place_json(alloc: Global, length: u32, buffer: u32, offset: u32) -> Mem<Value>
-    ensures { IfOk result (λ v. view v ≡ list_value
-        (integer_value (pos length) ∷ integer_value (pos buffer) ∷ integer_value (pos offset) ∷ [])) }
+    ensures { IfOk result (λ v. view v ≡ list_value (integer_value (pos length)
+        ∷ integer_value (pos buffer)
+        ∷ integer_value (pos offset)
+        ∷ [])) }
 {
     json!(in alloc; [length, buffer, offset])
 }
@@ -77,8 +79,8 @@ fn buffers_json(alloc: Global, buffers: &[Buffer<u8>]) -> Mem<Value>
     Ok(Value::Array(list))
 }
 
-/// The data of views: `{"buffers":[hex..],"mask":M,"views":[w..]}`, each view as the hexadecimal text
-/// of its value, or as `[length,buffer,offset]` where the value has more than twelve bytes.
+/// The data of views: `{"buffers":[hex..],"mask":M,"views":[w..]}`, each view as the hexadecimal
+/// text of its value, or as `[length,buffer,offset]` where the value has more than twelve bytes.
 pub fn view_json<T: ViewType>(alloc: Global, array: &BinaryViewArrayGeneric<T>) -> Mem<Value>
     ensures { IfOk result (λ v. view v ≡ data_value (view_layout array.now)) }
 {

@@ -138,8 +138,8 @@ fn pieces_json<O: Offset>(
     })
 }
 
-/// The data of binary values or strings: `{"bytes":hex,"mask":M,"offsets":[n..]}`, with all bytes and
-/// each offset as it stands.
+/// The data of binary values or strings: `{"bytes":hex,"mask":M,"offsets":[n..]}`, with all bytes
+/// and each offset as it stands.
 pub fn binary_json<K: ViewType, O: Offset>(alloc: Global, array: &OffsetArray<K, O>) -> Mem<Value>
     ensures { IfOk result (λ v. view v ≡ data_value (binary_layout O.number array.now)) }
 {

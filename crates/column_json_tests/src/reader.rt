@@ -26,17 +26,17 @@ fn is_refused(alloc: Global, text: &str) -> bool {
 fn refused(rt: HostRuntime) -> Result<(), Fail> {
     let alloc = rt.alloc();
     for text in [
-        "{\"data\":{\"mask\":null,\"values\":\"12\"},\"type\":\"boolean\"}",
-        "{\"data\":{\"mask\":null,\"values\":[256]},\"type\":\"uint8\"}",
-        "{\"data\":{\"mask\":null,\"values\":[1.0]},\"type\":\"uint8\"}",
-        "{\"data\":{\"mask\":null,\"values\":[\"ff\"]},\"type\":\"int128\"}",
-        "{\"data\":{\"mask\":null,\"values\":[]},\"type\":\"float32\"}",
-        "{\"data\":{\"bytes\":\"616\",\"mask\":null,\"offsets\":[0]},\"type\":\"binary\"}",
-        "{\"data\":{\"bytes\":\"\",\"mask\":null,\"offsets\":[2147483648]},\"type\":\"utf8\"}",
-        "{\"data\":{\"mask\":null,\"values\":[1]},\"name\":1,\"slice\":[0,1],\"type\":\"uint8\"}",
-        "{\"data\":{\"mask\":null,\"values\":[1]},\"slice\":[1],\"type\":\"uint8\"}",
-        "{\"data\":{\"buffers\":[],\"mask\":null,\"views\":[[12,0,0]]},\"type\":\"utf8_view\"}",
-        "{\"data\":{\"length\":1},\"type\":\"null\"}",
+        r#"{"data":{"mask":null,"values":"12"},"type":"boolean"}"#,
+        r#"{"data":{"mask":null,"values":[256]},"type":"uint8"}"#,
+        r#"{"data":{"mask":null,"values":[1.0]},"type":"uint8"}"#,
+        r#"{"data":{"mask":null,"values":["ff"]},"type":"int128"}"#,
+        r#"{"data":{"mask":null,"values":[]},"type":"float32"}"#,
+        r#"{"data":{"bytes":"616","mask":null,"offsets":[0]},"type":"binary"}"#,
+        r#"{"data":{"bytes":"","mask":null,"offsets":[2147483648]},"type":"utf8"}"#,
+        r#"{"data":{"mask":null,"values":[1]},"name":1,"slice":[0,1],"type":"uint8"}"#,
+        r#"{"data":{"mask":null,"values":[1]},"slice":[1],"type":"uint8"}"#,
+        r#"{"data":{"buffers":[],"mask":null,"views":[[12,0,0]]},"type":"utf8_view"}"#,
+        r#"{"data":{"length":1},"type":"null"}"#,
     ] {
         assert!(rt; is_refused(alloc, text));
     }
@@ -99,8 +99,7 @@ fn has_last_numbers(array: &ArrayRef) -> bool {
 #[test]
 fn a_column_with_a_slice(rt: HostRuntime) -> Result<(), Fail> {
     let alloc = rt.alloc();
-    let text =
-        "{\"data\":{\"mask\":\"101\",\"values\":[1,7,3]},\"slice\":[1,2],\"type\":\"int32\"}";
+    let text = r#"{"data":{"mask":"101","values":[1,7,3]},"slice":[1,2],"type":"int32"}"#;
     let column = column_in(alloc, text).ok_or("no column")?;
     let is_read = is_sliced(&column);
     let array = array_in(alloc, column).ok_or("no array")?;
@@ -127,13 +126,19 @@ fn reads_back(alloc: Global, text: &str) -> bool {
 fn an_array_of_each_kind(rt: HostRuntime) -> Result<(), Fail> {
     let alloc = rt.alloc();
     for text in [
-        "{\"data\":{\"mask\":\"110\",\"values\":\"101\"},\"type\":\"boolean\"}",
-        "{\"data\":{\"mask\":\"101\",\"values\":[1,7,3]},\"type\":\"int32\"}",
-        "{\"data\":{\"bytes\":\"090aff\",\"mask\":null,\"offsets\":[1,1,3]},\"type\":\"binary\"}",
-        "{\"data\":{\"bytes\":\"6869\",\"mask\":\"1\",\"offsets\":[0,2]},\"type\":\"large_utf8\"}",
-        "{\"data\":{\"bytes\":\"01020304\",\"mask\":\"10\"},\"type\":[\"fixed_size_binary\",2]}",
-        "{\"data\":{\"buffers\":[\"2d30313233343536373839616263\"],\"mask\":null,\"views\":[\"6162\",[13,0,1]]},\"type\":\"binary_view\"}",
-        "{\"data\":{\"buffers\":[\"2d30313233343536373839616263\"],\"mask\":\"10\",\"views\":[\"6162\",[13,0,1]]},\"type\":\"utf8_view\"}",
+        r#"{"data":{"mask":"110","values":"101"},"type":"boolean"}"#,
+        r#"{"data":{"mask":"101","values":[1,7,3]},"type":"int32"}"#,
+        r#"{"data":{"bytes":"090aff","mask":null,"offsets":[1,1,3]},"type":"binary"}"#,
+        r#"{"data":{"bytes":"6869","mask":"1","offsets":[0,2]},"type":"large_utf8"}"#,
+        r#"{"data":{"bytes":"01020304","mask":"10"},"type":["fixed_size_binary",2]}"#,
+        concat!(
+            r#"{"data":{"buffers":["2d30313233343536373839616263"],"mask":null,"views":["6162","#,
+            r#"[13,0,1]]},"type":"binary_view"}"#
+        ),
+        concat!(
+            r#"{"data":{"buffers":["2d30313233343536373839616263"],"mask":"10","views":["6162","#,
+            r#"[13,0,1]]},"type":"utf8_view"}"#
+        ),
     ] {
         assert!(rt; reads_back(alloc, text));
     }

@@ -34,7 +34,10 @@ fn values_of_native_types(rt: HostRuntime) -> Result<(), Fail> {
             alloc,
             ArrowDataType::Int128,
             &[-2i128, 255],
-            "{\"mask\":null,\"values\":[\"fffffffffffffffffffffffffffffffe\",\"000000000000000000000000000000ff\"]}",
+            concat!(
+                r#"{"mask":null,"values":["fffffffffffffffffffffffffffffffe","#,
+                r#""000000000000000000000000000000ff"]}"#
+            ),
         )?
     );
     assert!(rt;
@@ -42,7 +45,7 @@ fn values_of_native_types(rt: HostRuntime) -> Result<(), Fail> {
             alloc,
             ArrowDataType::UInt64,
             &[u64::MAX],
-            "{\"mask\":null,\"values\":[18446744073709551615]}",
+            r#"{"mask":null,"values":[18446744073709551615]}"#,
         )?
     );
     assert!(rt;
@@ -50,7 +53,7 @@ fn values_of_native_types(rt: HostRuntime) -> Result<(), Fail> {
             alloc,
             ArrowDataType::Interval(IntervalUnit::DayTime),
             &[DaysMs(-1, 2)],
-            "{\"mask\":null,\"values\":[[-1,2]]}",
+            r#"{"mask":null,"values":[[-1,2]]}"#,
         )?
     );
     assert!(rt;
@@ -58,7 +61,7 @@ fn values_of_native_types(rt: HostRuntime) -> Result<(), Fail> {
             alloc,
             ArrowDataType::Interval(IntervalUnit::MonthDayNano),
             &[MonthDayNano(1, -2, 3)],
-            "{\"mask\":null,\"values\":[[1,-2,3]]}",
+            r#"{"mask":null,"values":[[1,-2,3]]}"#,
         )?
     );
     Ok(())
@@ -77,7 +80,7 @@ fn bits_under_a_mask(rt: HostRuntime) -> Result<(), Fail> {
     let array = bits(alloc)?;
     let value = boolean_json(alloc, &array);
     drop(array);
-    assert!(rt; is_value(alloc, value, "{\"mask\":\"110\",\"values\":\"101\"}"));
+    assert!(rt; is_value(alloc, value, r#"{"mask":"110","values":"101"}"#));
     Ok(())
 }
 
@@ -98,7 +101,7 @@ fn byte_strings(rt: HostRuntime) -> Result<(), Fail> {
         is_value(
             alloc,
             value,
-            "{\"bytes\":\"090aff\",\"mask\":null,\"offsets\":[1,1,3]}"
+            r#"{"bytes":"090aff","mask":null,"offsets":[1,1,3]}"#
         )
     );
     Ok(())
@@ -121,7 +124,7 @@ fn texts_as_bytes(rt: HostRuntime) -> Result<(), Fail> {
         is_value(
             alloc,
             value,
-            "{\"bytes\":\"6869\",\"mask\":null,\"offsets\":[0,2]}"
+            r#"{"bytes":"6869","mask":null,"offsets":[0,2]}"#
         )
     );
     Ok(())
@@ -134,7 +137,7 @@ fn byte_strings_of_one_size(rt: HostRuntime) -> Result<(), Fail> {
     let array = FixedSizeBinaryArray::try_new(ArrowDataType::FixedSizeBinary(2), bytes, None)?;
     let value = fixed_size_binary_json(alloc, &array);
     drop(array);
-    assert!(rt; is_value(alloc, value, "{\"bytes\":\"01020304\",\"mask\":null}"));
+    assert!(rt; is_value(alloc, value, r#"{"bytes":"01020304","mask":null}"#));
     Ok(())
 }
 
@@ -148,7 +151,7 @@ fn a_column_as_a_value(rt: HostRuntime) -> Result<(), Fail> {
         is_value(
             alloc,
             value,
-            "{\"data\":{\"mask\":\"101\",\"values\":[1,7,-3]},\"type\":\"date32\"}",
+            r#"{"data":{"mask":"101","values":[1,7,-3]},"type":"date32"}"#,
         )
     );
     Ok(())
@@ -194,7 +197,7 @@ fn short_and_long_values_by_views(rt: HostRuntime) -> Result<(), Fail> {
         is_value(
             alloc,
             value,
-            "{\"buffers\":[\"2d30313233343536373839616263\"],\"mask\":null,\"views\":[\"6162\",[13,0,1]]}",
+            r#"{"buffers":["2d30313233343536373839616263"],"mask":null,"views":["6162",[13,0,1]]}"#,
         )
     );
     Ok(())

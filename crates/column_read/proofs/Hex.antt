@@ -11,6 +11,6 @@ octets-bytes [] h = refl
 octets-bytes (b ∷ bs) h =
     ap (λ n. n ∷ octets bs) (mod-eq_of_lt (h 0)) ∙ ap (λ l. b ∷ l) (octets-bytes bs (λ i. h (suc i)))
 
--- what decodes is bytes
-pub bytes : (text bs : List ℕ) → decode_of text ≡ Ok bs → octets bs ≡ bs
-bytes text bs e = octets-bytes bs (decode_of-ok text bs e).3
+-- what decodes fits into bytes
+pub fits : (text bs : List ℕ) → decode_of text ≡ Ok bs → octets bs ≡ bs
+fits text bs e = octets-bytes bs (decode_of-ok text bs e).3

@@ -132,7 +132,7 @@ pub fn mask_in(alloc: Global, value: &Value) -> Result<Option<Bitmap>, JsonError
 
 /// The bytes that a value is: a text of two hexadecimal digits a byte, in both cases. BadValue
 /// exactly where it is none.
-#[tactic(auto, using(crate::proofs::Hex::bytes), unfolding(column_grammar::specs::Values::bytes_in))]
+#[tactic(auto, using(crate::proofs::Hex::fits), unfolding(column_grammar::specs::Values::bytes_in))]
 pub fn bytes_in(alloc: Global, value: &Value) -> Result<Vec<u8>, JsonError>
     ensures read { Reads BadValue (λ bs. bs.items) (bytes_in (view value.now)) result }
     ensures octets { IfOk result (λ bs. octets bs.items ≡ bs.items) }

@@ -1,5 +1,5 @@
 -- The text, the status and the verdict of each outcome.
-use Rattle.std.specs.Prelude.{ℕ, List, codes, Option, Some, None}
+use Rattle.std.specs.Prelude.{◌≡◌, ◌⊎◌, ℕ, List, codes, Option, Some, None}
 use Rattle.jobs.specs.declared.outcome.Outcome.{Outcome}
 use Rattle.jobs.specs.declared.outcome.Outcome.TheVariants.{Done, Usage, BadText, BadJob, BadLayout, TooLong, TooDeep, Overflow, ReadFault, WriteFault, OutOfMemory}
 use Rattle.jobs.specs.Job.{Verdict, too_long, bad_text, bad_job, too_deep, bad_layout, overflows, a_job}
@@ -34,6 +34,10 @@ status_of Overflow = 15
 status_of ReadFault = 20
 status_of WriteFault = 21
 status_of OutOfMemory = 30
+
+-- a status that the program ends with: that of an outcome, or 1 where the words couldn't be had
+abbrev pub IsStatus : ℕ → Type 0
+IsStatus status = (status ≡ 1) ⊎ ((outcome : Outcome) × (status ≡ status_of outcome))
 
 -- what an outcome says of the bytes, where it says something
 abbrev pub verdict_of : Outcome → Option Verdict

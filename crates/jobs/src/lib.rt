@@ -8,6 +8,7 @@ mod memory;
 mod outcome;
 mod outside;
 mod plain;
+mod program;
 mod standard;
 
 pub use job::run;
@@ -15,4 +16,5 @@ pub use memory::{MemorySink, MemorySource};
 pub use outcome::{Outcome, message, outcome_text, status};
 pub use outside::{Sink, SinkFailed, Source, SourceFailed};
 pub use plain::{PlainSink, PlainSource};
+pub use program::run_program;
 pub use standard::{StdSink, StdSource};

@@ -64,7 +64,8 @@ impl Drop for MemorySource {
 }
 
 impl MemorySource {
-    ghost use Rattle.jobs.specs.Memory.{source_left, source_faults, source_calls, source_piece, source_fails};
+    ghost use Rattle.jobs.specs.Memory.{source_left, source_faults, source_calls};
+    ghost use Rattle.jobs.specs.Memory.{source_piece, source_fails};
 
     /// Gives these bytes, at most `piece` at a call, and fails at the calls whose numbers, counted
     /// from 1, stand in `fails`.
@@ -90,7 +91,8 @@ impl MemorySource {
 }
 
 impl Source for MemorySource {
-    ghost use Rattle.jobs.specs.Memory.{source_left, source_faults, source_calls, source_piece, source_fails};
+    ghost use Rattle.jobs.specs.Memory.{source_left, source_faults, source_calls};
+    ghost use Rattle.jobs.specs.Memory.{source_piece, source_fails};
 
     ghost left = { λ s. Some (source_left s) };
 
@@ -153,7 +155,8 @@ impl Drop for MemorySink {
 }
 
 impl MemorySink {
-    ghost use Rattle.jobs.specs.Memory.{sink_held, sink_faults, sink_calls, sink_piece, sink_fails, sink_room};
+    ghost use Rattle.jobs.specs.Memory.{sink_held, sink_faults, sink_calls};
+    ghost use Rattle.jobs.specs.Memory.{sink_piece, sink_fails, sink_room};
 
     /// Takes at most `piece` bytes at a call, `room` in all, and fails at the calls whose numbers,
     /// counted from 1, stand in `fails`.
@@ -189,7 +192,8 @@ impl MemorySink {
 }
 
 impl Sink for MemorySink {
-    ghost use Rattle.jobs.specs.Memory.{sink_held, sink_faults, sink_calls, sink_piece, sink_fails, sink_room};
+    ghost use Rattle.jobs.specs.Memory.{sink_held, sink_faults, sink_calls};
+    ghost use Rattle.jobs.specs.Memory.{sink_piece, sink_fails, sink_room};
 
     ghost held = { λ s. Some (sink_held s) };
 

@@ -27,7 +27,8 @@ pub trait Source {
     /// How often it has failed.
     ghost faults: { Self → ℕ };
 
-    /// Reads up to `buf.len()` bytes and returns how many; 0 only at the end or into an empty buffer.
+    /// Reads up to `buf.len()` bytes and returns how many; 0 only at the end or into an empty
+    /// buffer.
     ///
     /// A call that fails leaves the bytes, and counts a fault.
     fn read(&mut self, buf: &mut [u8]) -> Result<usize, SourceFailed>

@@ -200,19 +200,37 @@ fn each_flat_layout_has_its_outcome(rt: HostRuntime) {
                 "",
             ),
             (
-                r#"{"data":{"mask":null,"values":["ffffffffffffffffffffffffffffffff"]},"type":"int128"}"#,
+                concat!(
+                    r#"{"data":{"mask":null,"values":["ffffffffffffffffffffffffffffffff"]},"#,
+                    r#""type":"int128"}"#
+                ),
                 Outcome::Done,
-                r#"{"data":{"mask":null,"values":["ffffffffffffffffffffffffffffffff"]},"type":"int128"}"#,
+                concat!(
+                    r#"{"data":{"mask":null,"values":["ffffffffffffffffffffffffffffffff"]},"#,
+                    r#""type":"int128"}"#
+                ),
             ),
             (
-                r#"{"data":{"mask":null,"values":["FFFFFFFFFFFFFFFFFFFFFFFFFFFFFFFF"]},"type":"int128"}"#,
+                concat!(
+                    r#"{"data":{"mask":null,"values":["FFFFFFFFFFFFFFFFFFFFFFFFFFFFFFFF"]},"#,
+                    r#""type":"int128"}"#
+                ),
                 Outcome::Done,
-                r#"{"data":{"mask":null,"values":["ffffffffffffffffffffffffffffffff"]},"type":"int128"}"#,
+                concat!(
+                    r#"{"data":{"mask":null,"values":["ffffffffffffffffffffffffffffffff"]},"#,
+                    r#""type":"int128"}"#
+                ),
             ),
             (
-                r#"{"data":{"mask":null,"values":["FFFFFFFFFFFFFFFFFFFFFFFFFFFFFFFF"]},"type":["decimal",9,2]}"#,
+                concat!(
+                    r#"{"data":{"mask":null,"values":["FFFFFFFFFFFFFFFFFFFFFFFFFFFFFFFF"]},"#,
+                    r#""type":["decimal",9,2]}"#
+                ),
                 Outcome::Done,
-                r#"{"data":{"mask":null,"values":["ffffffffffffffffffffffffffffffff"]},"type":["decimal",9,2]}"#,
+                concat!(
+                    r#"{"data":{"mask":null,"values":["ffffffffffffffffffffffffffffffff"]},"#,
+                    r#""type":["decimal",9,2]}"#
+                ),
             ),
             (
                 r#"{"data":{"mask":null,"values":["ff"]},"type":"int128"}"#,
@@ -325,17 +343,31 @@ fn each_flat_layout_has_its_outcome(rt: HostRuntime) {
                 "",
             ),
             (
-                r#"{"data":{"buffers":["0000615f766572795f766572795f6c6f6e675f737472696e675f746861745f69735f6e6f745f696e6c696e61626c65"],"mask":null,"views":[[45,0,2],"616263"]},"type":"utf8_view"}"#,
+                concat!(
+                    r#"{"data":{"buffers":["0000615f766572795f766572795f6c6f6e675f737472696e675f"#,
+                    r#"746861745f69735f6e6f745f696e6c696e61626c65"],"mask":null,"views":[[45,0,2],"#,
+                    r#""616263"]},"type":"utf8_view"}"#
+                ),
                 Outcome::Done,
-                r#"{"data":{"buffers":["615f766572795f766572795f6c6f6e675f737472696e675f746861745f69735f6e6f745f696e6c696e61626c65"],"mask":null,"views":[[45,0,0],"616263"]},"type":"utf8_view"}"#,
+                concat!(
+                    r#"{"data":{"buffers":["615f766572795f766572795f6c6f6e675f737472696e675f7468"#,
+                    r#"61745f69735f6e6f745f696e6c696e61626c65"],"mask":null,"views":[[45,0,0],"#,
+                    r#""616263"]},"type":"utf8_view"}"#
+                ),
             ),
             (
-                r#"{"data":{"buffers":["00112233445566778899aabbcc"],"mask":"01","views":[[13,0,0],"FF"]},"type":"binary_view"}"#,
+                concat!(
+                    r#"{"data":{"buffers":["00112233445566778899aabbcc"],"mask":"01","#,
+                    r#""views":[[13,0,0],"FF"]},"type":"binary_view"}"#
+                ),
                 Outcome::Done,
                 r#"{"data":{"buffers":[],"mask":"01","views":["","ff"]},"type":"binary_view"}"#,
             ),
             (
-                r#"{"data":{"buffers":["00112233445566778899aabbcc"],"mask":null,"views":[[13,0,1]]},"type":"binary_view"}"#,
+                concat!(
+                    r#"{"data":{"buffers":["00112233445566778899aabbcc"],"mask":null,"#,
+                    r#""views":[[13,0,1]]},"type":"binary_view"}"#
+                ),
                 Outcome::BadLayout(0),
                 "",
             ),
@@ -355,7 +387,10 @@ fn each_flat_layout_has_its_outcome(rt: HostRuntime) {
                 "",
             ),
             (
-                r#"{"data":{"buffers":[],"mask":null,"views":["00112233445566778899aabbcc"]},"type":"binary_view"}"#,
+                concat!(
+                    r#"{"data":{"buffers":[],"mask":null,"views":["00112233445566778899aabbcc"]},"#,
+                    r#""type":"binary_view"}"#
+                ),
                 Outcome::BadJob,
                 "",
             ),

@@ -1,4 +1,4 @@
-use Rattle.std.proofs.Common.{◌≡◌, ◌∙◌, Some, None, refl}
+use Rattle.std.proofs.Common.{◌≡◌, Some, None, refl}
 use Rattle.serde_json.specs.View.{view}
 use Rattle.arrow_types.specs.Seen.{seen}
 use Rattle.arrow_bytes.specs.FixedSizeBinaries.{declared_size}

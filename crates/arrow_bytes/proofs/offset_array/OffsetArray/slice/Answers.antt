@@ -3,7 +3,8 @@ use Rattle.std.specs.Prelude.{pred}
 use Rattle.arrow_buffers.specs.Offsets.{end_of}
 use Rattle.arrow_flat.specs.Primitives.{MaskHasLength}
 use Rattle.arrow_flat.proofs.Masked.{cut_fits}
-use Rattle.arrow_bytes.specs.Binaries.{AreTextsIf, slot_count, values_between}
+use Rattle.arrow_flat.specs.Pieces.{AreTextsIf}
+use Rattle.arrow_bytes.specs.Binaries.{slot_count, values_between}
 use Rattle.arrow_bytes.proofs.Windows.{texts_window_if, end_window, window_slots, within_count}
 use Rattle.arrow_bytes.proofs.offset_array.OffsetArray.slice.Goals as goal
 

@@ -1,5 +1,6 @@
 use Rattle.std.proofs.Common.{slice_get, ap, sym, ◌∙◌, ◌<◌, subst}
-use Rattle.arrow_bytes.specs.Binaries.{AreTextsIf, slot_count, values_between, values_of}
+use Rattle.arrow_flat.specs.Pieces.{AreTextsIf}
+use Rattle.arrow_bytes.specs.Binaries.{slot_count, values_between, values_of}
 use Rattle.arrow_bytes.proofs.Windows.{offset_after}
 use Rattle.arrow_bytes.proofs.offset_array.OffsetArray.value_bytes.Goals as goal
 
