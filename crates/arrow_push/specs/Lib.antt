@@ -1,3 +1,4 @@
+pub mod Arrays
 pub mod Flat
 pub mod Items
 pub mod Laws

@@ -12,5 +12,5 @@ module _ {V X : Type 0} {G : builder.Ghosts V X} {L : laws.Ghosts V} {B : buildi
   state b = built_under L.blank (B.seen b.values) b.validity
 
   -- The bits of its mask, if it has one.
-  abbrev pub mask_of : MaskedBuilder V X G L B → Option (List Bool)
-  mask_of b = b.validity
+  abbrev pub builder_mask : MaskedBuilder V X G L B → Option (List Bool)
+  builder_mask b = b.validity

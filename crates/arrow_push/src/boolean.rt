@@ -14,7 +14,8 @@ pub struct BooleanValues {
     alloc: Global,
 }
 
-/// By hand, so that each place where a value may end has one call to prove, and not the drop of every field.
+/// By hand: a place where a value may end then has one call to prove, and not the drop of each
+/// field.
 impl Drop for BooleanValues {
     fn drop(self) {
         let BooleanValues {
@@ -76,6 +77,7 @@ impl ValuesBuilder for BooleanValues {
     ghost use Rattle.arrow_flat.specs.Booleans.{slots};
     ghost use Rattle.arrow_flat.specs.Slots.{bool};
     ghost use Rattle.arrow_flat.specs.Slots.{slot_or_null};
+    ghost use Rattle.arrow_layout.specs.Layouts.{booleans};
 
     type Array = BooleanArray;
 
@@ -84,6 +86,8 @@ impl ValuesBuilder for BooleanValues {
       slots = map (slot_or_null bool) (slots a);
       validity = a.mask;
     } };
+
+    ghost layout = { λ a. booleans (type_of a.dtype) a.mask a.values };
 
     fn dtype(&self) -> &ArrowDataType {
         &self.dtype

@@ -6,7 +6,7 @@ ghost use Rattle.arrow_push.specs.Masks.{with_nulls, count_or, all_filled};
 
 use crate::mask::{extend_mask, freeze_mask, push_bit, reserve_mask, shrink_mask, truncate_mask};
 use crate::{
-    FreshValues, NullableBuilder, SolidValues, TryExtend, TryExtendFromSelf, TryPush,
+    FreshValues, NullableBuilder, ReserveBytes, SolidValues, TryExtend, TryExtendFromSelf, TryPush,
     ValuesBuilder, push_each,
 };
 use arrow_buffers::MutableBitmap;
@@ -14,16 +14,19 @@ use arrow_flat::{Building, TryClone};
 use arrow_types::{ArrowDataType, Mem, PolarsResult};
 use std::alloc::Global;
 
-/// A builder of values and nulls. It has no mask before the first null, and under each null a blank stands among the values.
+/// A builder of values and nulls. It has no mask before the first null, and under each null a blank
+/// stands among the values.
 pub struct MaskedBuilder<V: ValuesBuilder> {
     values: V,
     validity: Option<MutableBitmap>,
     ghost fits: { count_or validity (length (V.seen values).slots) ≡ length (V.seen values).slots },
-    ghost bare: { all_filled (V.blank (V.seen values).dtype) (with_nulls validity (V.seen values).slots)
+    ghost bare: { all_filled (V.blank (V.seen values).dtype)
+        (with_nulls validity (V.seen values).slots)
         ≡ (V.seen values).slots } by { Prim.hlevel (props, slot_code) },
 }
 
-/// By hand, so that each place where a value may end has one call to prove, and not the drop of every field.
+/// By hand: a place where a value may end then has one call to prove, and not the drop of each
+/// field.
 impl<V: ValuesBuilder + Drop> Drop for MaskedBuilder<V> {
     fn drop(self) {
         let MaskedBuilder {
@@ -39,18 +42,19 @@ impl<V: ValuesBuilder> Building for MaskedBuilder<V> {
 
     ghost seen = { λ b. built_under V.blank (V.seen b.values) b.validity };
 
-    ghost starts = { λ b. masked_starts V.blank (V.seen b.values) b.validity (V.starts b.values) b.fits };
+    ghost starts = { λ b.
+        masked_starts V.blank (V.seen b.values) b.validity (V.starts b.values) b.fits };
 }
 
 impl<V: FreshValues> MaskedBuilder<V> {
     ghost use Rattle.std.specs.Prelude.{◌≡◌, [], None, IfOk};
-    ghost use Rattle.arrow_push.specs.State.{state, mask_of};
+    ghost use Rattle.arrow_push.specs.State.{state, builder_mask};
 
     /// An empty builder of the default type of the values.
     pub fn new(alloc: Global) -> Mem<MaskedBuilder<V>>
         ensures slots { IfOk result (λ b. (state b).slots ≡ []) }
         ensures kind { IfOk result (λ b. (state b).dtype ≡ V.plain_type) }
-        ensures unmasked { IfOk result (λ b. mask_of b ≡ None) }
+        ensures unmasked { IfOk result (λ b. builder_mask b ≡ None) }
     {
         Ok(MaskedBuilder::over(V::fresh(alloc)?))
     }
@@ -59,15 +63,16 @@ impl<V: FreshValues> MaskedBuilder<V> {
 impl<V: ValuesBuilder> MaskedBuilder<V> {
     ghost use Rattle.std.specs.Prelude.{◌≡◌, [], None, MatchResult, IfOk};
     ghost use Rattle.arrow_flat.specs.Built.{Pushes, IsCutTo};
+    ghost use Rattle.arrow_push.specs.Arrays.{HoldsSlots};
     ghost use Rattle.arrow_push.specs.Masks.{finished_of};
-    ghost use Rattle.arrow_push.specs.State.{state, mask_of};
+    ghost use Rattle.arrow_push.specs.State.{state, builder_mask};
 
     /// No slots yet, over a builder without values.
     pub fn over(values: V) -> MaskedBuilder<V>
         requires { (V.seen values).slots ≡ [] }
         ensures slots { (state result).slots ≡ [] }
         ensures kind { (state result).dtype ≡ (V.seen values).dtype }
-        ensures unmasked { mask_of result ≡ None }
+        ensures unmasked { builder_mask result ≡ None }
     {
         MaskedBuilder {
             values,
@@ -94,7 +99,7 @@ impl<V: ValuesBuilder> MaskedBuilder<V> {
         requires { V.TryPush.can_take value }
         ensures pushed { Pushes (V.TryPush.stands_for value) (V.TryPush.begins value)
             (state self.old) (state self.new) result }
-        ensures unmasked { mask_of self.old ≡ None → mask_of self.new ≡ None }
+        ensures unmasked { builder_mask self.old ≡ None → builder_mask self.new ≡ None }
     {
         let alloc = self.values.allocator();
         let len = self.values.len();
@@ -106,12 +111,13 @@ impl<V: ValuesBuilder> MaskedBuilder<V> {
         Ok(())
     }
 
-    /// The array of the slots, with a mask exactly where a slot is null. The builder is left empty and without a mask, where memory
-    /// is short too.
+    /// The array of the slots, with a mask exactly where a slot is null. The builder is left empty
+    /// and without a mask, where memory is short too.
     pub fn finish(&mut self) -> Mem<V::Array>
         ensures value { IfOk result (λ a. V.finished a ≡ finished_of (state self.old)) }
+        ensures denoted { IfOk result (λ a. HoldsSlots (state self.old) (V.layout a)) }
         ensures emptied { IsCutTo 0 (state self.old) (state self.new) }
-        ensures unmasked { mask_of self.new ≡ None }
+        ensures unmasked { builder_mask self.new ≡ None }
     {
         match freeze_mask(&mut self.validity) {
             Ok(validity) => self.values.finish_under(validity),
@@ -123,12 +129,28 @@ impl<V: ValuesBuilder> MaskedBuilder<V> {
     }
 }
 
+impl<V: ReserveBytes> MaskedBuilder<V> {
+    ghost use Rattle.std.specs.Prelude.{◌≡◌};
+    ghost use Rattle.arrow_push.specs.State.{state, builder_mask};
+
+    /// Makes room for `additional` slots more, of `bytes` bytes together.
+    pub fn reserve_bytes(&mut self, additional: usize, bytes: usize) -> Mem<()>
+        ensures slots { state self.new ≡ state self.old }
+        ensures mask { builder_mask self.new ≡ builder_mask self.old }
+    {
+        self.values.reserve_bytes(additional, bytes)?;
+        reserve_mask(&mut self.validity, additional)
+    }
+}
+
 impl<V: ValuesBuilder> NullableBuilder for MaskedBuilder<V> {
-    ghost use Rattle.std.specs.Prelude.{◌≡◌, map, None, IfSome, IfNone};
+    ghost use Rattle.std.specs.Prelude.{◌≡◌, ◌≤◌, length, map, None, IfSome, IfNone};
     ghost use Rattle.std.specs.Option.{option_copied};
+    ghost use Rattle.arrow_flat.specs.Built.{IsCutTo};
     ghost use Rattle.arrow_flat.specs.Slots.{is_valid as is_valid_slot};
+    ghost use Rattle.arrow_push.specs.Masks.{cut_to};
     ghost use Rattle.arrow_push.specs.Nulls.{AreValid};
-    ghost use Rattle.arrow_push.specs.State.{state, mask_of};
+    ghost use Rattle.arrow_push.specs.State.{state, builder_mask};
 
     fn dtype(&self) -> &ArrowDataType {
         self.values.dtype()
@@ -138,12 +160,13 @@ impl<V: ValuesBuilder> NullableBuilder for MaskedBuilder<V> {
         self.values.len()
     }
 
-    /// The mask, where there is one: a set bit for each slot that isn't null. Without a mask no slot is null.
+    /// The mask, where there is one: a set bit for each slot that isn't null. Without a mask no
+    /// slot is null.
     fn validity(&self) -> Option<&MutableBitmap>
         ensures bits { IfSome (option_copied result)
             (λ bits. bits ≡ map is_valid_slot (state self.now).slots) }
         ensures none { IfNone (option_copied result) (AreValid (state self.now).slots) }
-        ensures mask { option_copied result ≡ mask_of self.now }
+        ensures mask { option_copied result ≡ builder_mask self.now }
     {
         self.validity.as_ref()
     }
@@ -166,17 +189,30 @@ impl<V: ValuesBuilder> NullableBuilder for MaskedBuilder<V> {
         Ok(())
     }
 
-    fn truncate(&mut self, len: usize) {
+    /// Keeps the first `len` slots, with the mask that is there. Takes no memory.
+    fn truncate(&mut self, len: usize)
+        requires { len ≤ length (state self.old).slots }
+        ensures cut { IsCutTo len (state self.old) (state self.new) }
+        ensures mask { builder_mask self.new ≡ cut_to (builder_mask self.old) len }
+    {
         self.values.truncate(len);
         truncate_mask(&mut self.validity, len);
     }
 
-    fn reserve(&mut self, additional: usize) -> Mem<()> {
+    /// Makes room for `additional` slots more. It begins no mask.
+    fn reserve(&mut self, additional: usize) -> Mem<()>
+        ensures slots { state self.new ≡ state self.old }
+        ensures mask { builder_mask self.new ≡ builder_mask self.old }
+    {
         self.values.reserve(additional)?;
         reserve_mask(&mut self.validity, additional)
     }
 
-    fn shrink_to_fit(&mut self) -> Mem<()> {
+    /// Gives room back that no slot needs, and none of the mask.
+    fn shrink_to_fit(&mut self) -> Mem<()>
+        ensures slots { state self.new ≡ state self.old }
+        ensures mask { builder_mask self.new ≡ builder_mask self.old }
+    {
         shrink_mask(&mut self.validity);
         self.values.shrink_to_fit()
     }
@@ -194,7 +230,7 @@ impl<A, V: ValuesBuilder + SolidValues<A>> TryPush<Option<A>> for MaskedBuilder<
     ghost use Rattle.std.specs.Prelude.{◌≡◌, ◌≤◌, length, None, IsSome, IsTrue};
     ghost use Rattle.arrow_flat.specs.Built.{Pushes};
     ghost use Rattle.arrow_push.specs.Items.{CanTakeSome, OrNull};
-    ghost use Rattle.arrow_push.specs.State.{state, mask_of};
+    ghost use Rattle.arrow_push.specs.State.{state, builder_mask};
 
     ghost can_take = { CanTakeSome V.TryPush.can_take };
 
@@ -209,7 +245,7 @@ impl<A, V: ValuesBuilder + SolidValues<A>> TryPush<Option<A>> for MaskedBuilder<
         ensures pushed { IsTrue (state self.old).whole
             → Pushes (OrNull V.TryPush.stands_for item) (OrNull V.TryPush.begins item)
             (state self.old) (state self.new) result }
-        ensures unmasked { IsSome item → mask_of self.old ≡ None → mask_of self.new ≡ None }
+        ensures unmasked { IsSome item → builder_mask self.old ≡ None → builder_mask self.new ≡ None }
     {
         match item {
             Some(value) => self.push_value(value),
@@ -233,14 +269,28 @@ impl<A, V: ValuesBuilder + SolidValues<A>> TryExtend<Option<A>> for MaskedBuilde
 }
 
 impl<V: ValuesBuilder> TryExtendFromSelf for MaskedBuilder<V> {
-    ghost use Rattle.std.specs.Prelude.{⊤};
-    ghost use Rattle.arrow_push.specs.State.{state};
+    ghost use Rattle.std.specs.Prelude.{◌≡◌, ⊤, length, IsTrue, MatchResult};
+    ghost use Rattle.arrow_flat.specs.Built.{ExtendsFrom};
+    ghost use Rattle.arrow_push.specs.Masks.{appended_mask};
+    ghost use Rattle.arrow_push.specs.State.{state, builder_mask};
 
     ghost from_refusal = { λ a b. (state a).refusal (state b).slots };
 
     ghost Bare = { λ b. ⊤ };
 
-    fn try_extend_from_self(&mut self, other: &MaskedBuilder<V>) -> PolarsResult<()> {
+    /// Appends the slots of a builder of the same type. A refused call leaves the slots and the
+    /// mask, and later pushes do what they would have done.
+    fn try_extend_from_self(&mut self, other: &MaskedBuilder<V>) -> PolarsResult<()>
+        requires types { (state other.now).dtype ≡ (state self.old).dtype }
+        requires both { IsTrue (state self.old).whole × IsTrue (state other.now).whole }
+        ensures extended { ExtendsFrom ((state self.old).refusal (state other.now).slots) ⊤
+            (state self.old) (state self.new) (state other.now).slots result }
+        ensures mask { let count = length (state other.now).slots in
+            MatchResult result
+            (λ _. builder_mask self.new ≡ appended_mask (builder_mask self.old)
+            (length (state self.old).slots) (builder_mask other.now) count)
+            (λ _. builder_mask self.new ≡ builder_mask self.old) }
+    {
         let alloc = self.values.allocator();
         let len = self.values.len();
         self.values.extend_values(&other.values)?;

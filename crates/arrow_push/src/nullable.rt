@@ -37,7 +37,8 @@ pub trait NullableBuilder: Building {
         requires { i < length (Self.seen self.now).slots }
         ensures { slice_get (map is_valid_slot (Self.seen self.now).slots) i ≡ Some result };
 
-    /// Appends a null. A refused call leaves the slots, and later pushes do what they would have done.
+    /// Appends a null. A refused call leaves the slots, and later pushes do what they would have
+    /// done.
     fn push_null(&mut self) -> PolarsResult<()>
         ensures grows { length (Self.seen self.old).slots ≤ length (Self.seen self.new).slots }
         ensures pushed { IsTrue (Self.seen self.old).whole

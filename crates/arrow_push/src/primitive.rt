@@ -18,7 +18,8 @@ pub struct PrimitiveValues<T: NativeType> {
     values: Vec<T>,
 }
 
-/// By hand, so that each place where a value may end has one call to prove, and not the drop of every field.
+/// By hand: a place where a value may end then has one call to prove, and not the drop of each
+/// field.
 impl<T: NativeType> Drop for PrimitiveValues<T> {
     fn drop(self) {
         let PrimitiveValues {
@@ -43,7 +44,8 @@ impl<T: NativeType> Model for PrimitiveValues<T> {
 
     ghost view = { λ b. record { dtype = b.dtype; values = b.values.items } };
 
-    ghost invariant = { λ b. physical_of (type_of b.dtype) ≡ Some (physical.Primitive T.PRIMITIVE) };
+    ghost invariant = { λ b.
+        physical_of (type_of b.dtype) ≡ Some (physical.Primitive T.PRIMITIVE) };
 }
 
 /// A builder of values of one width and nulls.
@@ -80,6 +82,7 @@ impl<T: NativeType> ValuesBuilder for PrimitiveValues<T> {
     ghost use Rattle.arrow_flat.specs.Primitives.{slots};
     ghost use Rattle.arrow_push.specs.Flat.{number};
     ghost use Rattle.arrow_flat.specs.Slots.{slot_or_null};
+    ghost use Rattle.arrow_layout.specs.Layouts.{primitives};
 
     type Array = PrimitiveArray<T>;
 
@@ -88,6 +91,8 @@ impl<T: NativeType> ValuesBuilder for PrimitiveValues<T> {
       slots = map (slot_or_null (number T.parts)) (slots a);
       validity = a.mask;
     } };
+
+    ghost layout = { λ a. primitives (type_of a.dtype) a.mask (map T.parts a.values) };
 
     fn dtype(&self) -> &ArrowDataType {
         &self.dtype

@@ -17,12 +17,14 @@ pub trait TryPush<A>: Building {
 
     ghost begins: { A → Slot → Type 0 };
 
-    /// Appends the slot that the item stands for. A refused call leaves the slots, and later pushes do what they would have done.
+    /// Appends the slot that the item stands for. A refused call leaves the slots, and later pushes
+    /// do what they would have done.
     fn try_push(&mut self, item: A) -> PolarsResult<()>
         requires { can_take item }
         ensures grows { length (Self.seen self.old).slots ≤ length (Self.seen self.new).slots }
         ensures pushed { IsTrue (Self.seen self.old).whole
-            → Pushes (stands_for item) (begins item) (Self.seen self.old) (Self.seen self.new) result };
+            → Pushes (stands_for item) (begins item)
+            (Self.seen self.old) (Self.seen self.new) result };
 }
 
 /// Appends the items of an iterator, in their order.
@@ -33,9 +35,11 @@ pub trait TryExtend<A>: Building {
 
     ghost begins: { A → Slot → Type 0 };
 
-    /// Appends the slots that the items of a finite iterator stand for. A refused call keeps those before the refused one.
+    /// Appends the slots that the items of a finite iterator stand for. A refused call keeps those
+    /// before the refused one.
     fn try_extend<I: IntoIterator<Item = A>>(&mut self, iter: I) -> PolarsResult<()>
-        requires finite { IsFiniteIterable I.into_iter_gives I.IntoIter.can_next I.IntoIter.remaining iter }
+        requires finite { IsFiniteIterable
+            I.into_iter_gives I.IntoIter.can_next I.IntoIter.remaining iter }
         requires accepted { EachItem I.into_iter_gives I.IntoIter.next_gives can_take iter }
         ensures grows { length (Self.seen self.old).slots ≤ length (Self.seen self.new).slots }
         ensures extended { IsTrue (Self.seen self.old).whole
@@ -49,7 +53,8 @@ pub trait TryExtendFromSelf: Building {
 
     ghost Bare: { Self → Type 0 };
 
-    /// Appends the slots of a builder of the same type. A refused call leaves the slots, and later pushes do what they would have done.
+    /// Appends the slots of a builder of the same type. A refused call leaves the slots, and later
+    /// pushes do what they would have done.
     fn try_extend_from_self(&mut self, other: &Self) -> PolarsResult<()>
         requires types { (Self.seen other.now).dtype ≡ (Self.seen self.old).dtype }
         requires both { IsTrue (Self.seen self.old).whole × IsTrue (Self.seen other.now).whole }
@@ -62,7 +67,8 @@ pub fn push_each<A, B: TryPush<A>, I: IntoIterator<Item = A>>(
     builder: &mut B,
     iter: I,
 ) -> PolarsResult<()>
-    requires finite { IsFiniteIterable I.into_iter_gives I.IntoIter.can_next I.IntoIter.remaining iter }
+    requires finite { IsFiniteIterable
+        I.into_iter_gives I.IntoIter.can_next I.IntoIter.remaining iter }
     requires accepted { EachItem I.into_iter_gives I.IntoIter.next_gives B.can_take iter }
     ensures grows { length (B.seen builder.old).slots ≤ length (B.seen builder.new).slots }
     ensures extended { IsTrue (B.seen builder.old).whole

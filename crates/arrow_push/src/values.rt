@@ -5,6 +5,8 @@ ghost use Rattle.arrow_types.specs.Seen.{seen as type_of};
 ghost use Rattle.arrow_flat.specs.Slots.{Slot, is_valid};
 ghost use Rattle.arrow_flat.specs.Built.{Takes, IsUnchanged, IsCutTo, ExtendsFrom};
 ghost use Rattle.arrow_flat.specs.Primitives.{MaskHasLength};
+ghost use Rattle.arrow_layout.specs.Layouts.{Layout};
+ghost use Rattle.arrow_push.specs.Arrays.{HoldsValues};
 ghost use Rattle.arrow_push.specs.Masks.{finished_under, Finished};
 ghost use Rattle.arrow_push.specs.Nulls.{AreValid};
 
@@ -14,7 +16,8 @@ use arrow_flat::Building;
 use arrow_types::{ArrowDataType, Mem, PolarsResult};
 use std::alloc::Global;
 
-/// What all builders of values keep: values stand as they were pushed, none is null, and some value stands in a null's place.
+/// What all builders of values keep: values stand as they were pushed, none is null, and some value
+/// stands in a null's place.
 pub trait ValuesLaws: Building {
     ghost blank: { TypeData → Slot };
 
@@ -39,6 +42,8 @@ pub trait ValuesBuilder: ValuesLaws {
 
     ghost finished: { Self.Array → Finished };
 
+    ghost layout: { Self.Array → Layout };
+
     /// The type of the array.
     fn dtype(&self) -> &ArrowDataType
         ensures { type_of result.now ≡ (Self.seen self.now).dtype };
@@ -52,8 +57,9 @@ pub trait ValuesBuilder: ValuesLaws {
 
     /// Appends the value that stands in a null's place. A refused call changes nothing.
     fn push_blank(&mut self) -> Mem<()>
-        ensures { MatchResult result
-            (λ _. Takes (Self.seen self.old) (Self.seen self.new) (Self.blank (Self.seen self.old).dtype ∷ []))
+        ensures { let b = Self.blank (Self.seen self.old).dtype in
+            MatchResult result
+            (λ _. Takes (Self.seen self.old) (Self.seen self.new) (b ∷ []))
             (λ _. IsUnchanged (Self.seen self.old) (Self.seen self.new)) };
 
     /// Appends the values of a builder of the same type, or none of them.
@@ -67,7 +73,7 @@ pub trait ValuesBuilder: ValuesLaws {
         requires { len ≤ length (Self.seen self.old).slots }
         ensures { IsCutTo len (Self.seen self.old) (Self.seen self.new) };
 
-    /// Makes room for `additional` values more, where these are byte strings or texts of a byte each.
+    /// Makes room for `additional` values more; for bytes or strings of a byte each.
     fn reserve(&mut self, additional: usize) -> Mem<()>
         ensures { Self.seen self.new ≡ Self.seen self.old };
 
@@ -78,8 +84,17 @@ pub trait ValuesBuilder: ValuesLaws {
     /// The array of the values under a mask. The builder is left empty, where memory is short too.
     fn finish_under(&mut self, validity: Option<Bitmap>) -> Mem<Self::Array>
         requires { MaskHasLength validity (length (Self.seen self.old).slots) }
-        ensures value { IfOk result (λ a. finished a ≡ finished_under validity (Self.seen self.old)) }
+        ensures value { IfOk result
+            (λ a. finished a ≡ finished_under validity (Self.seen self.old)) }
+        ensures held { IfOk result (λ a. HoldsValues validity (Self.seen self.old) (layout a)) }
         ensures emptied { IsCutTo 0 (Self.seen self.old) (Self.seen self.new) };
+}
+
+/// A builder of values that each have a length of their own.
+pub trait ReserveBytes: ValuesBuilder {
+    /// Makes room for `additional` values more, of `bytes` bytes together.
+    fn reserve_bytes(&mut self, additional: usize, bytes: usize) -> Mem<()>
+        ensures { Self.seen self.new ≡ Self.seen self.old };
 }
 
 /// A builder of values of one plain type, which is made from nothing.
@@ -88,5 +103,6 @@ pub trait FreshValues: ValuesBuilder {
 
     /// No values yet.
     fn fresh(alloc: Global) -> Mem<Self>
-        ensures { IfOk result (λ b. ((Self.seen b).slots ≡ []) × ((Self.seen b).dtype ≡ plain_type)) };
+        ensures slots { IfOk result (λ b. (Self.seen b).slots ≡ []) }
+        ensures kind { IfOk result (λ b. (Self.seen b).dtype ≡ plain_type) };
 }

@@ -1,5 +1,5 @@
 -- What pushes do to builders of binary values and of strings by offsets.
-use Rattle.std.proofs.Common.{◌≡◌, ℕ, ◌+◌, ◌<◌, ◌≤◌, nat_le, Bool, true, false, cond, List, [], ◌∷◌, ◌++◌, map, length, refl, ap, sym, ◌∙◌, arith, inl, inr, Some, None}
+use Rattle.std.proofs.Common.{◌≡◌, ℕ, ◌+◌, ◌<◌, ◌≤◌, nat_le, ℤ, pos, negsuc, Bool, true, false, cond, List, [], ◌∷◌, ◌++◌, map, length, refl, ap, sym, ◌∙◌, arith, inl, inr, Some, None}
 use Rattle.std.specs.Prelude.{◌⊎◌, Result, Ok, Err, MatchResult}
 use Rattle.std.proofs.lemmas.List.{append-nil, map-append}
 use Rattle.arrow_types.specs.Seen.{seen}
@@ -7,6 +7,8 @@ use Rattle.arrow_types.specs.declared.datatype.ArrowDataType.{ArrowDataType}
 use Rattle.arrow_types.specs.declared.error.PolarsError.{PolarsError}
 use Rattle.arrow_types.specs.declared.error.PolarsError.TheVariants.{ComputeError, OutOfMemory}
 use Rattle.arrow_types.specs.declared.error.Reason.TheVariants.{LengthOverflow}
+use Rattle.arrow_types.specs.Select.{nat_of}
+use Rattle.arrow_buffers.specs.Offsets.{to_nat}
 use Rattle.arrow_flat.specs.Slots.{Slot, bytes}
 use Rattle.arrow_flat.specs.Built.{Takes, Pushes, IsUnchanged, ExtendsFrom}
 use Rattle.arrow_bytes.specs.Binaries.{AreTextsIf as AreOffsetTextsIf}
@@ -24,6 +26,12 @@ overflow = ComputeError LengthOverflow
 pub offset_texts : (text : Bool) (xs : List (List ℕ)) → AreTextsIf text xs → AreOffsetTextsIf text xs
 offset_texts true xs h = h
 offset_texts false xs h = tt
+
+-- the two words for the number of an offset
+pub same_numbers : (os : List ℤ) → map nat_of os ≡ map to_nat os
+same_numbers [] = refl
+same_numbers (pos n ∷ os) = ap (λ ns. n ∷ ns) (same_numbers os)
+same_numbers (negsuc n ∷ os) = ap (λ ns. 0 ∷ ns) (same_numbers os)
 
 module _ (limit : ℕ) where
   -- strings that fit, and slots after them

@@ -5,16 +5,20 @@ use Rattle.std.specs.Option.{unwrap_or}
 use Rattle.std.proofs.lemmas.List.{append-nil, map-append, length-append, length-map, length-drop, length-take-le, length-replicate, take-append-le, drop-append-le, take-append-drop, take_all}
 use Rattle.std.proofs.Math.Nat.{div-mul-le_self, mul-le-mul_right, mod-eq-sub-div-mul}
 use Rattle.std.proofs.Math.Seq.{take-append_seam}
+use Rattle.arrow_types.specs.Seen.{seen}
 use Rattle.arrow_types.specs.TypeData.{TypeData}
+use Rattle.arrow_types.specs.declared.datatype.ArrowDataType.{ArrowDataType}
 use Rattle.arrow_types.specs.declared.error.PolarsError.TheVariants.{ComputeError}
 use Rattle.arrow_types.specs.declared.error.Reason.TheVariants.{WrongWidth}
+use Rattle.arrow_flat.specs.Natives.{AreBytes}
 use Rattle.arrow_flat.specs.Pieces.{chunks}
+use Rattle.arrow_flat.proofs.Lists.{all_join, all_replicate}
 use Rattle.arrow_flat.specs.Slots.{Slot, bytes}
 use Rattle.arrow_flat.specs.Built.{Takes, IsUnchanged, IsCutTo}
 use Rattle.arrow_flat.proofs.Pieces.{chunk_count, whole_count, whole_multiple}
 use Rattle.arrow_bytes.specs.FixedSizeBinaries.{declared_size, size_or_zero}
 use Rattle.arrow_push_bytes.proofs.BuiltStrings.{strings_take, strings_keep, strings_cut}
-use Rattle.arrow_push_bytes.specs.BuiltSized.{sized_strings, width_refusal, built_sized, zeros_of}
+use Rattle.arrow_push_bytes.specs.BuiltSized.{SizedBytes, sized_strings, width_refusal, built_sized, zeros_of}
 
 -- ---- whole multiples
 
@@ -181,3 +185,31 @@ same_size s t j k e h l =
 
 pub slots_count : (k : ℕ) (bs : List ℕ) → length (map bytes (sized_strings k bs)) ≡ length bs / k
 slots_count k bs = length-map (sized_strings k bs) bytes ∙ strings_count k bs
+
+-- ---- a builder by its type, its size and its bytes
+
+abbrev pub sized : ArrowDataType → ℕ → List ℕ → SizedBytes
+sized t k bs = record { dtype = t; size = k; bytes = bs }
+
+-- a count of slots that is within a builder's
+pub few_sized : (t : ArrowDataType) (k n : ℕ) (bs : List ℕ) (b : SizedBytes) → sized t k bs ≡ b → n ≤ length (map bytes (sized_strings b.size b.bytes)) → n ≤ length bs / k
+few_sized t k n bs b e h =
+    subst (λ j. n ≤ j) (slots_count k bs) (subst (λ (a : SizedBytes). n ≤ length (map bytes (sized_strings a.size a.bytes))) (sym e) h)
+
+-- builders of one type have values of one size
+pub sizes_agree : (t u : ArrowDataType) (j k : ℕ) (bs cs : List ℕ) (a b : SizedBytes) → sized t j bs ≡ a → sized u k cs ≡ b → seen b.dtype ≡ seen a.dtype
+    → declared_size (seen t) ≡ Some j → declared_size (seen u) ≡ Some k → k ≡ j
+sizes_agree t u j k bs cs a b e f same h l =
+    same_size (seen u) (seen t) k j
+    (ap (λ (c : SizedBytes). seen c.dtype) f ∙ (same ∙ sym (ap (λ (c : SizedBytes). seen c.dtype) e))) l h
+
+-- what a call leaves of the bytes, whether or not there was memory
+pub grown_small : (bs xs more : List ℕ) (went : Bool) → AreBytes bs → AreBytes xs → more ≡ (if went then bs ++ xs else bs) → AreBytes more
+grown_small bs xs more true h k m = subst AreBytes (sym m) (all_join (λ b. b < 256) bs xs h k)
+grown_small bs xs more false h k m = subst AreBytes (sym m) h
+
+pub zeros_small : (k total n : ℕ) (bs more : List ℕ) (went : Bool) → AreBytes bs → length bs ≡ n → total ≡ n + k
+    → more ≡ (if went then take total bs ++ replicate (total - n) 0 else bs) → AreBytes more
+zeros_small k total n bs more true h l t m =
+    grown_small bs (replicate k 0) more true h (all_replicate (λ b. b < 256) k 0 (omega arith)) (m ∙ zeros_behind k total n bs l t)
+zeros_small k total n bs more false h l t m = subst AreBytes (sym m) h

@@ -1,11 +1,13 @@
 -- Strings one behind another, and the offsets and bytes that hold them.
-use Rattle.std.proofs.Common.{◌≡◌, ℕ, zero, suc, ◌+◌, ◌-◌, ◌≤◌, ℤ, pos, List, [], ◌∷◌, ◌++◌, map, length, take, drop, refl, ap, sym, ◌∙◌, subst, arith}
+use Rattle.std.proofs.Common.{◌≡◌, ℕ, zero, suc, ◌+◌, ◌-◌, ◌<◌, ◌≤◌, ℤ, pos, List, [], ◌∷◌, ◌++◌, map, length, take, drop, refl, ap, sym, ◌∙◌, subst, arith}
 use Rattle.std.specs.List.{concat}
 use Rattle.std.proofs.lemmas.List.{append_assoc, append-nil, length-append, length-map, take-map}
 use Rattle.std.proofs.lemmas.List.Folds.{concat-append}
 use Rattle.std.proofs.Math.Seq.{take-append_seam, drop-append_seam, take-append-add}
 use Rattle.arrow_buffers.specs.Offsets.{to_nat, end_from, end_of, ends}
+use Rattle.arrow_flat.specs.Natives.{AreBytes}
 use Rattle.arrow_flat.specs.Pieces.{pieces_from, pieces}
+use Rattle.arrow_flat.proofs.Lists.{all_join, all_take}
 use Rattle.arrow_push_bytes.specs.Strings.{total_of, borders, AreStrings}
 
 -- ---- sums
@@ -105,10 +107,11 @@ module _ (os : List ℤ) (bs : List ℕ) (xs : List (List ℕ)) (s : AreStrings 
   pub strings_bytes : length bs ≡ total_of xs
   strings_bytes = ap (λ (cs : List ℕ). length cs) s.bytes_are ∙ joined_length xs
 
-  pub strings_push : (ps : List ℤ) (cs v : List ℕ) → ps ≡ os ++ pos (end_of os + length v) ∷ [] → cs ≡ bs ++ v → AreStrings ps cs (xs ++ v ∷ [])
-  strings_push ps cs v e f = record {
+  pub strings_push : (ps : List ℤ) (cs v : List ℕ) → AreBytes v → ps ≡ os ++ pos (end_of os + length v) ∷ [] → cs ≡ bs ++ v → AreStrings ps cs (xs ++ v ∷ [])
+  strings_push ps cs v h e f = record {
     borders_are = e ∙ ap (λ n. os ++ pos (n + length v) ∷ []) strings_end ∙ ap (λ qs. qs ++ pos (total_of xs + length v) ∷ []) s.borders_are ∙ sym (borders_push xs v);
     bytes_are = f ∙ ap (λ ds. ds ++ v) s.bytes_are ∙ sym (joined_push xs v);
+    small = subst AreBytes (sym f) (all_join (λ b. b < 256) bs v s.small h);
   }
 
   pub strings_take : (ps : List ℤ) (cs : List ℕ) (n : ℕ) → ps ≡ take (n + 1) os → cs ≡ take (end_of ps) bs → AreStrings ps cs (take n xs)
@@ -117,13 +120,18 @@ module _ (os : List ℤ) (bs : List ℕ) (xs : List (List ℕ)) (s : AreStrings 
       record {
         borders_are = b;
         bytes_are = f ∙ ap (λ k. take k bs) (ap end_of b ∙ borders_end (take n xs)) ∙ ap (λ ds. take (total_of (take n xs)) ds) s.bytes_are ∙ joined_take n xs;
+        small = subst AreBytes (sym f) (all_take (λ b. b < 256) (end_of ps) bs s.small);
       }
 
 pub no_strings : AreStrings (pos 0 ∷ []) [] []
-no_strings = record { borders_are = refl; bytes_are = refl }
+no_strings = record { borders_are = refl; bytes_are = refl; small = tt }
 
 pub same_strings : (os ps : List ℤ) (bs cs : List ℕ) (xs : List (List ℕ)) → AreStrings os bs xs → ps ≡ os → cs ≡ bs → AreStrings ps cs xs
-same_strings os ps bs cs xs s e f = record { borders_are = e ∙ s.borders_are; bytes_are = f ∙ s.bytes_are }
+same_strings os ps bs cs xs s e f = record {
+  borders_are = e ∙ s.borders_are;
+  bytes_are = f ∙ s.bytes_are;
+  small = subst AreBytes (sym f) s.small;
+}
 
 -- ---- offsets by their numbers
 

@@ -12,11 +12,13 @@ use Rattle.arrow_flat.specs.Slots.{bytes, slot_or_null}
 use Rattle.arrow_flat.specs.Views.{View, is_short, longs}
 use Rattle.arrow_flat.proofs.PackedReads.{packed_reads}
 use Rattle.arrow_flat.proofs.PackedViews.{packed_well, length-views, total as packed_total, sum-total}
-use Rattle.arrow_views.specs.ViewArrays.{ViewArray, AreViews, AreTextsIf, values_in, slots}
+use Rattle.arrow_views.specs.ViewArrays.{ViewArray, AreViews, AreTextsIf, values_in, values_of}
+use Rattle.arrow_push.specs.Arrays.{HoldsValues}
 use Rattle.arrow_push.specs.Masks.{with_nulls, bits_of_mask}
 use Rattle.arrow_push.proofs.Finished.{shown, shown_parts}
 use Rattle.arrow_push_bytes.specs.Strings.{total_of}
-use Rattle.arrow_push_bytes.specs.BuiltViews.{finished_views, most_bytes, IsPacked}
+use Rattle.arrow_push_bytes.specs.BuiltStrings.{TypedStrings}
+use Rattle.arrow_push_bytes.specs.BuiltViews.{built_views, finished_views, view_array_layout, most_bytes, IsPacked}
 
 same_total : (vs : List (List ℕ)) → packed_total vs ≡ total_of vs
 same_total [] = refl
@@ -52,10 +54,21 @@ module _ (vs : List (List ℕ)) (us : List View) (buffers : List (List ℕ)) (vi
 
 -- the finished array has the values and the mask
 pub shown_result : {E : Type 0} (r : Result ViewArray E) (t u : ArrowDataType) (m : Option Bits) (xs ys : List (List ℕ)) → t ≡ u → xs ≡ ys
-    → IfOk r (λ a. a.dtype ≡ t) → IfOk r (λ a. slots a ≡ masked_values m xs) → IfOk r (λ a. a.mask ≡ m)
+    → IfOk r (λ a. a.dtype ≡ t) → IfOk r (λ a. values_of a ≡ xs) → IfOk r (λ a. a.mask ≡ m)
     → IfOk r (λ a. finished_views a ≡ shown (seen u) (with_nulls (bits_of_mask m) (map bytes ys)) m)
 shown_result (Ok a) t u m xs ys k e h l n =
-    ap₂ (λ d ss. shown (seen d) (map (slot_or_null bytes) ss) a.mask) h l
-    ∙ ap (λ b. shown (seen t) (map (slot_or_null bytes) (masked_values m xs)) b) n
+    ap₂ (λ d zs. shown (seen d) (map (slot_or_null bytes) (masked_values a.mask zs)) a.mask) h l
+    ∙ ap (λ b. shown (seen t) (map (slot_or_null bytes) (masked_values b xs)) b) n
     ∙ shown_parts bytes t u m xs ys k e
 shown_result (Err e) t u m xs ys k q h l n = tt
+
+-- and so does its layout
+pub held_result : {E : Type 0} (r : Result ViewArray E) (b : TypedStrings) (t : ArrowDataType) (m : Option Bits) (xs : List (List ℕ)) → t ≡ b.dtype → xs ≡ b.strings
+    → IfOk r (λ a. a.dtype ≡ t) → IfOk r (λ a. values_of a ≡ xs) → IfOk r (λ a. a.mask ≡ m)
+    → IfOk r (λ a. HoldsValues m (built_views b) (view_array_layout a))
+held_result (Ok a) b t m xs k e h l n = record {
+  same_type = ap seen (h ∙ k);
+  values_are = ap (map bytes) (l ∙ e);
+  mask_is = n;
+}
+held_result (Err e) b t m xs k q h l n = tt

@@ -12,6 +12,8 @@ use Rattle.arrow_flat.specs.Slots.{Slot, bytes}
 use Rattle.arrow_flat.specs.Built.{Built}
 use Rattle.arrow_bytes.specs.Binaries.{Binaries, layout_in, slots}
 use Rattle.arrow_flat.specs.Slots.{slot_or_null}
+use Rattle.arrow_flat.specs.Natives.{octets}
+use Rattle.arrow_layout.specs.Layouts.{Layout, binaries}
 use Rattle.arrow_push.specs.Masks.{Finished}
 use Rattle.arrow_push_bytes.specs.Strings.{total_of}
 use Rattle.arrow_push_bytes.specs.BuiltStrings.{TypedStrings, built_strings}
@@ -36,6 +38,10 @@ finished_offsets number a = record {
   slots = map (slot_or_null bytes) (slots number a);
   validity = a.mask;
 }
+
+-- The layout of such an array.
+abbrev pub offset_array_layout : {O : Type 0} → (O → ℤ) → Binaries O → Layout
+offset_array_layout number a = binaries (seen a.dtype) a.mask (map number a.offsets) (octets a.values)
 
 -- The plain type of strings or of binary values, by whether the offsets are large.
 abbrev pub plain_offset_type : Bool → Bool → TypeData

@@ -1,17 +1,35 @@
 -- What builders of binary values of one size stand for.
-use Rattle.std.specs.Prelude.{ℕ, ◌/◌, nat_eq, if◌then◌else◌, List, [], ◌∷◌, map, length, replicate, Option, Some, None}
+use Rattle.std.specs.Prelude.{◌≡◌, ℕ, ◌/◌, ◌%◌, ◌<◌, nat_eq, if◌then◌else◌, List, [], ◌∷◌, map, length, replicate, Option, Some, None}
 use Rattle.arrow_types.specs.Seen.{seen}
 use Rattle.arrow_types.specs.TypeData.{TypeData}
+use Rattle.arrow_types.specs.declared.datatype.ArrowDataType.{ArrowDataType}
 use Rattle.arrow_types.specs.declared.error.PolarsError.{PolarsError}
 use Rattle.arrow_types.specs.declared.error.PolarsError.TheVariants.{ComputeError}
 use Rattle.arrow_types.specs.declared.error.Reason.TheVariants.{WrongWidth}
 use Rattle.arrow_flat.specs.Pieces.{chunks}
 use Rattle.arrow_flat.specs.Slots.{Slot, bytes}
 use Rattle.arrow_flat.specs.Built.{Built}
-use Rattle.arrow_bytes.specs.FixedSizeBinaries.{FixedSizeBinaries, size_or_zero, slots}
+use Rattle.arrow_bytes.specs.FixedSizeBinaries.{FixedSizeBinaries, declared_size, size_or_zero, slot_count, slots}
 use Rattle.arrow_flat.specs.Slots.{slot_or_null}
+use Rattle.arrow_flat.specs.Natives.{octets, AreBytes}
+use Rattle.arrow_layout.specs.Layouts.{Layout, fixed_size_binaries}
 use Rattle.arrow_push.specs.Masks.{Finished}
 use Rattle.arrow_push_bytes.specs.BuiltStrings.{built_strings}
+
+-- What a contract sees of a builder of binary values of one size: the type, the size, and the bytes
+-- of the values one after another.
+pub record SizedBytes : Type 0 where
+  pub dtype : ArrowDataType
+  pub size : ℕ
+  pub bytes : List ℕ
+
+-- What every such builder keeps: its type declares the size, which isn't 0 and divides the count of
+-- bytes, and each byte is below 256.
+pub record AreSized (b : SizedBytes) : Type 0 where
+  pub sized : declared_size (seen b.dtype) ≡ Some b.size
+  pub positive : 0 < b.size
+  pub multiple : length b.bytes % b.size ≡ 0
+  pub small : AreBytes b.bytes
 
 -- The values of k bytes each, one after another.
 abbrev pub sized_strings : ℕ → List ℕ → List (List ℕ)
@@ -37,3 +55,7 @@ finished_sized a = record {
   slots = map (slot_or_null bytes) (slots a);
   validity = a.mask;
 }
+
+-- The layout of such an array.
+abbrev pub sized_array_layout : FixedSizeBinaries → Layout
+sized_array_layout a = fixed_size_binaries (seen a.dtype) a.mask a.size (slot_count a) (octets a.values)

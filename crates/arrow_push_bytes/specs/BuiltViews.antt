@@ -14,6 +14,7 @@ use Rattle.arrow_flat.specs.Slots.{Slot, bytes}
 use Rattle.arrow_flat.specs.Built.{Built}
 use Rattle.arrow_views.specs.ViewArrays.{ViewArray, AreTextsIf, physical_view, slots}
 use Rattle.arrow_flat.specs.Slots.{slot_or_null}
+use Rattle.arrow_layout.specs.Layouts.{Layout, views}
 use Rattle.arrow_push.specs.Masks.{Finished}
 use Rattle.arrow_push_bytes.specs.Strings.{total_of}
 use Rattle.arrow_push_bytes.specs.BuiltStrings.{TypedStrings, built_strings}
@@ -43,6 +44,10 @@ finished_views a = record {
   slots = map (slot_or_null bytes) (slots a);
   validity = a.mask;
 }
+
+-- The layout of such an array.
+abbrev pub view_array_layout : ViewArray → Layout
+view_array_layout a = views (seen a.dtype) a.mask a.views a.buffers
 
 -- The type of values by views, with no meaning beside their bytes.
 abbrev pub plain_view_type : Bool → TypeData

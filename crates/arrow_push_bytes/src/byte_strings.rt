@@ -1,8 +1,9 @@
 //! Values of bytes that grow, one after another.
-ghost use Rattle.std.specs.Prelude.{◌≡◌, ◌↔◌, ℕ, ◌+◌, ◌-◌, ◌<◌, ◌≤◌, length as count, [], ◌∷◌, ◌++◌, map, take, drop, slice_get, Some, IfOk, IsTrue, MatchResult};
+ghost use Rattle.std.specs.Prelude.{◌≡◌, ◌↔◌, ℕ, ◌+◌, ◌-◌, ◌<◌, ◌≤◌, length as count, [], ◌∷◌, ◌++◌, map, take, drop, slice_get, Some, IfOk, IfErr, OnOk, IsTrue};
 ghost use Rattle.arrow_buffers.specs.Offsets.{AreOffsets, to_nat, end_of, IsGrowthRefusal};
+ghost use Rattle.arrow_flat.specs.Natives.{AreBytes};
 ghost use Rattle.arrow_flat.specs.Pieces.{pieces};
-ghost use Rattle.arrow_push_bytes.specs.Strings.{total_of, IsOverflow};
+ghost use Rattle.arrow_push_bytes.specs.Strings.{total_of, IsOverflow, Appends};
 
 use arrow_buffers::{Buffer, Offset, OffsetError, Offsets, OffsetsBuffer};
 use arrow_flat::{Access, ByteString, TryClone};
@@ -10,13 +11,15 @@ use arrow_types::{Mem, PolarsError, PolarsResult, Reason};
 use std::alloc::Global;
 use std::marker::Model;
 
-/// Values of bytes that grow at their end, seen as their list: offsets, and the bytes of all values one after another.
+/// Values of bytes that grow at their end, seen as their list: offsets, and the bytes of all values
+/// one after another.
 pub struct ByteStrings<O: Offset> {
     offsets: Offsets<O>,
     bytes: Vec<u8>,
 }
 
-/// By hand, so that each place where a value may end has one call to prove, and not the drop of every field.
+/// By hand: a place where a value may end then has one call to prove, and not the drop of each
+/// field.
 impl<O: Offset> Drop for ByteStrings<O> {
     fn drop(self) {
         let ByteStrings {
@@ -36,7 +39,10 @@ impl<O: Offset> Model for ByteStrings<O> {
 
     ghost view = { λ b. pieces (map to_nat (map O.number b.offsets)) b.bytes.items };
 
-    ghost invariant = { λ b. AreStrings (map O.number b.offsets) b.bytes.items (pieces (map to_nat (map O.number b.offsets)) b.bytes.items) };
+    ghost invariant = { λ b.
+        let offsets = map O.number b.offsets in
+        let bytes = b.bytes.items in
+        AreStrings offsets bytes (pieces (map to_nat offsets) bytes) };
 }
 
 impl<O: Offset> ByteStrings<O> {
@@ -68,7 +74,8 @@ impl<O: Offset> ByteStrings<O> {
     /// The string at a place.
     pub fn value(&self, i: usize) -> &[u8]
         requires { i < count self.now }
-        ensures { slice_get self.now i ≡ Some result.now }
+        ensures value { slice_get self.now i ≡ Some result.now }
+        ensures bytes { AreBytes result.now }
     {
         let (start, end) = self.offsets.start_end(i);
         between(self.bytes.as_slice(), start, end)
@@ -79,13 +86,11 @@ impl<O: Offset> ByteStrings<O> {
         *self.bytes.allocator()
     }
 
-    /// Appends a string. Refused as ComputeError LengthOverflow where the bytes together pass the greatest offset. A refused call
-    /// leaves the strings as they were.
+    /// Appends a string. Refused as ComputeError LengthOverflow where the bytes together pass the
+    /// greatest offset. A refused call leaves the strings as they were.
     pub fn try_push(&mut self, value: &[u8]) -> PolarsResult<()>
-        ensures { MatchResult result
-            (λ _. (self.new ≡ self.old ++ value.now ∷ []) × (total_of self.old + count value.now < O.limit))
-            (λ e. (self.new ≡ self.old)
-            × IsOverflow O.limit (total_of self.old + count value.now) e) }
+        ensures { Appends O.limit (value.now ∷ []) (total_of self.old + count value.now)
+            self.old self.new result }
     {
         let before = self.offsets.len_proxy();
         if let Err(error) = self.offsets.try_push(value.len()) {
@@ -98,20 +103,18 @@ impl<O: Offset> ByteStrings<O> {
         Ok(())
     }
 
-    /// Appends the strings of another, or none of them: refused as ComputeError LengthOverflow where the bytes of both together
-    /// pass the greatest offset.
+    /// Appends the strings of another, or none of them: refused as ComputeError LengthOverflow
+    /// where the bytes of both together pass the greatest offset.
     pub fn try_extend(&mut self, other: &ByteStrings<O>) -> PolarsResult<()>
         ensures fits { total_of self.old < O.limit }
-        ensures extended { MatchResult result
-            (λ _. (self.new ≡ self.old ++ other.now) × (total_of self.old + total_of other.now < O.limit))
-            (λ e. (self.new ≡ self.old)
-            × IsOverflow O.limit (total_of self.old + total_of other.now) e) }
+        ensures extended { Appends O.limit other.now (total_of self.old + total_of other.now)
+            self.old self.new result }
     {
         let bytes = other.total();
         if !has_offset::<O>(self.total() + bytes) {
             return Err(PolarsError::ComputeError(Reason::LengthOverflow));
         }
-        self.reserve_both(other.len(), bytes)?;
+        self.reserve_bytes(other.len(), bytes)?;
         let before = self.len();
         if let Err(error) = self.push_all(other) {
             self.truncate(before);
@@ -120,12 +123,14 @@ impl<O: Offset> ByteStrings<O> {
         Ok(())
     }
 
-    /// Appends the strings of another one by one. A refused call keeps those before the refused one.
+    /// Appends the strings of another one by one. A refused call keeps those before the refused
+    /// one.
     fn push_all(&mut self, other: &ByteStrings<O>) -> PolarsResult<()>
         requires fits { total_of self.old < O.limit }
         ensures front { take (count self.old) self.new ≡ self.old }
-        ensures pushed { MatchResult result
-            (λ _. (self.new ≡ self.old ++ other.now) × (total_of self.old + total_of other.now < O.limit))
+        ensures all { OnOk result (self.new ≡ self.old ++ other.now) }
+        ensures within { OnOk result (total_of self.old + total_of other.now < O.limit) }
+        ensures refused { IfErr result
             (λ e. IsOverflow O.limit (total_of self.old + total_of other.now) e) }
     {
         for i in 0..other.len() {
@@ -147,14 +152,14 @@ impl<O: Offset> ByteStrings<O> {
     pub fn reserve(&mut self, additional: usize) -> Mem<()>
         ensures { self.new ≡ self.old }
     {
-        self.reserve_both(additional, additional)
+        self.reserve_bytes(additional, additional)
     }
 
-    /// Makes room for `strings` strings more, of `bytes` bytes together.
-    fn reserve_both(&mut self, strings: usize, bytes: usize) -> Mem<()>
+    /// Makes room for `additional` strings more, of `bytes` bytes together.
+    pub fn reserve_bytes(&mut self, additional: usize, bytes: usize) -> Mem<()>
         ensures { self.new ≡ self.old }
     {
-        self.offsets.reserve(strings)?;
+        self.offsets.reserve(additional)?;
         self.bytes.reserve(bytes)
     }
 
@@ -172,6 +177,7 @@ impl<O: Offset> ByteStrings<O> {
         ensures sound { IfOk result (λ p. AreOffsets O.limit (map O.number p.0)) }
         ensures slots { IfOk result (λ p. count p.0 ≡ count self.old + 1) }
         ensures end { IfOk result (λ p. end_of (map O.number p.0) ≡ count p.1) }
+        ensures bytes { IfOk result (λ p. AreBytes p.1) }
         ensures empty { self.new ≡ [] }
     {
         match ByteStrings::new(self.allocator()) {
@@ -189,10 +195,11 @@ impl<O: Offset> ByteStrings<O> {
         ensures sound { IfOk result (λ p. AreOffsets O.limit (map O.number p.0)) }
         ensures slots { IfOk result (λ p. count p.0 ≡ count self + 1) }
         ensures end { IfOk result (λ p. end_of (map O.number p.0) ≡ count p.1) }
+        ensures bytes { IfOk result (λ p. AreBytes p.1) }
     {
+        prove!(self.len() == self.offsets.len_proxy());
         let ByteStrings { offsets, bytes } = self;
         let alloc = *bytes.allocator();
-        offsets.len_proxy();
         let offsets = offsets.freeze()?;
         Ok((offsets, Buffer::from_vec(alloc, bytes)?))
     }
@@ -245,7 +252,8 @@ fn growth_refusal(error: OffsetError) -> PolarsError
 /// The bytes between two places.
 fn between(bytes: &[u8], start: usize, end: usize) -> &[u8]
     requires { (start ≤ end) × (end ≤ count bytes.now) }
-    ensures { result.now ≡ take (end - start) (drop start bytes.now) }
+    ensures value { result.now ≡ take (end - start) (drop start bytes.now) }
+    ensures bytes { AreBytes result.now }
 {
     &bytes[start..end]
 }

@@ -14,9 +14,9 @@ use arrow_types::{PolarsError, PolarsResult, Reason};
 pub trait ExtendFromLengths: Building {
     ghost is_text: { Bool };
 
-    /// Appends the values of these lengths, which are the bytes, one after another; those of a builder of strings are UTF-8. Refused
-    /// as pushes of the values in their order are, and where they are too many together before any is appended. A refused call
-    /// changes nothing.
+    /// Appends the values of these lengths, which are the bytes, one after another; those of a
+    /// builder of strings are UTF-8. Refused as pushes of the values in their order are, and where
+    /// they are too many together before any is appended. A refused call changes nothing.
     fn extend_from_lengths(&mut self, bytes: &[u8], lengths: &[usize]) -> PolarsResult<()>
         requires lengths { sum lengths.now ≡ count bytes.now }
         requires texts { AreTextsIf is_text (parts lengths.now bytes.now) }
@@ -31,7 +31,7 @@ impl<T: ViewType> ExtendFromLengths for MaskedBuilder<ViewValues<T>> {
         if !self.values().has_room_for(bytes.len()) {
             return Err(PolarsError::ComputeError(Reason::LengthOverflow));
         }
-        self.reserve(lengths.len())?;
+        self.reserve_bytes(lengths.len(), bytes.len())?;
         let before = self.len();
         if let Err(error) = push_parts(self, bytes, lengths) {
             self.truncate(before);
@@ -41,7 +41,8 @@ impl<T: ViewType> ExtendFromLengths for MaskedBuilder<ViewValues<T>> {
     }
 }
 
-/// Pushes the values of these lengths one by one. A refused call keeps those before the refused one.
+/// Pushes the values of these lengths one by one. A refused call keeps those before the refused
+/// one.
 fn push_parts<T: ViewType>(
     builder: &mut MutableBinaryViewArray<T>,
     bytes: &[u8],

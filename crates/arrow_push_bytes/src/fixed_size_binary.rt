@@ -1,32 +1,24 @@
 //! The builder of binary values of one size.
-ghost use Rattle.std.specs.Prelude.{◌≡◌, ◌%◌, ◌/◌, ◌<◌, length as count, Some};
-ghost use Rattle.std.specs.Coded.{codes};
-ghost use Rattle.std.proofs.Props.{props};
-ghost use Rattle.arrow_types.specs.Seen.{seen as type_of};
-ghost use Rattle.arrow_types.specs.TypeData as T;
-ghost use Rattle.arrow_bytes.specs.FixedSizeBinaries.{declared_size};
-
 use arrow_buffers::{Bitmap, Buffer};
 use arrow_bytes::FixedSizeBinaryArray;
-use arrow_flat::Building;
+use arrow_flat::{Building, TryClone};
 use arrow_push::{
     MaskedBuilder, SolidValues, TryExtend, TryExtendFromSelf, TryPush, ValuesBuilder, ValuesLaws,
     push_each,
 };
 use arrow_types::{ArrowDataType, Mem, PolarsError, PolarsResult, Reason};
 use std::alloc::{AllocError, Global};
+use std::marker::Model;
 
-/// A builder of binary values of one size, without nulls.
+/// A builder of binary values of one size, without nulls, seen as its type, the size and its bytes.
 pub struct FixedSizeBinaryValues {
     dtype: ArrowDataType,
     size: usize,
     values: Vec<u8>,
-    ghost sized: { declared_size (type_of dtype) ≡ Some size } by { Prim.hlevel (props, codes) },
-    ghost positive: { 0 < size },
-    ghost multiple: { count values.items % size ≡ 0 },
 }
 
-/// By hand, so that each place where a value may end has one call to prove, and not the drop of every field.
+/// By hand: a place where a value may end then has one call to prove, and not the drop of each
+/// field.
 impl Drop for FixedSizeBinaryValues {
     fn drop(self) {
         let FixedSizeBinaryValues {
@@ -35,6 +27,24 @@ impl Drop for FixedSizeBinaryValues {
             values: _,
         } = self;
     }
+}
+
+impl Model for FixedSizeBinaryValues {
+    ghost use Rattle.std.specs.Coded.{codes};
+    ghost use Rattle.arrow_types.specs.contracts.datatype.ArrowDataType as data_type;
+    ghost use Rattle.arrow_push_bytes.specs.BuiltSized.{SizedBytes, AreSized};
+
+    ghost Value = { SizedBytes };
+
+    ghost coded = { Prim.hlevel (codes, data_type.the_row.coded) };
+
+    ghost view = { λ b. record { dtype = b.dtype; size = b.size; bytes = b.values.items } };
+
+    ghost invariant = { λ b. AreSized record {
+      dtype = b.dtype;
+      size = b.size;
+      bytes = b.values.items;
+    } };
 }
 
 /// A builder of binary values of one size and nulls.
@@ -58,10 +68,10 @@ impl Building for FixedSizeBinaryValues {
     ghost use Rattle.arrow_push_bytes.specs.BuiltSized.{built_sized, sized_strings, width_refusal};
     ghost use Rattle.arrow_push_bytes.specs.Laws.{strings_start};
 
-    ghost seen = { λ b. built_sized b.size (type_of b.dtype) b.values.items };
+    ghost seen = { λ b. built_sized b.size (type_of b.dtype) b.bytes };
 
     ghost starts = { λ b. strings_start (λ xs ys. width_refusal b.size ys) (type_of b.dtype)
-        (sized_strings b.size b.values.items) refl };
+        (sized_strings b.size b.bytes) refl };
 }
 
 impl NewSized for FixedSizeBinaryValues {
@@ -92,15 +102,17 @@ impl ValuesLaws for FixedSizeBinaryValues {
 
     ghost plain = { λ b ys. refl };
 
-    ghost valid = { λ b. strings_valid (sized_strings b.size b.values.items) };
+    ghost valid = { λ b. strings_valid (sized_strings b.size b.bytes) };
 }
 
 impl ValuesBuilder for FixedSizeBinaryValues {
-    ghost use Rattle.arrow_push_bytes.specs.BuiltSized.{finished_sized};
+    ghost use Rattle.arrow_push_bytes.specs.BuiltSized.{finished_sized, sized_array_layout};
 
     type Array = FixedSizeBinaryArray;
 
     ghost finished = { finished_sized };
+
+    ghost layout = { sized_array_layout };
 
     fn dtype(&self) -> &ArrowDataType {
         &self.dtype
@@ -152,6 +164,19 @@ impl ValuesBuilder for FixedSizeBinaryValues {
     }
 }
 
+impl TryClone for FixedSizeBinaryValues {
+    fn try_clone(&self, alloc: Global) -> Mem<FixedSizeBinaryValues> {
+        let mut values = Vec::new(alloc);
+        values.extend_from_slice(self.values.as_slice())?;
+        let dtype = self.dtype.try_clone(alloc)?;
+        Ok(FixedSizeBinaryValues {
+            dtype,
+            size: self.size,
+            values,
+        })
+    }
+}
+
 impl<'a> TryPush<&'a [u8]> for FixedSizeBinaryValues {
     ghost use Rattle.std.specs.Prelude.{◌≡◌, ⊤};
     ghost use Rattle.arrow_flat.specs.Slots.{bytes};
@@ -200,7 +225,8 @@ impl TryExtendFromSelf for FixedSizeBinaryValues {
     ghost use Rattle.arrow_flat.specs.Slots.{bytes};
     ghost use Rattle.arrow_push_bytes.specs.BuiltSized.{sized_strings, width_refusal};
 
-    ghost from_refusal = { λ a b. width_refusal a.size (map bytes (sized_strings b.size b.values.items)) };
+    ghost from_refusal = { λ a b.
+        width_refusal a.size (map bytes (sized_strings b.size b.bytes)) };
 
     ghost Bare = { λ b. ⊤ };
 

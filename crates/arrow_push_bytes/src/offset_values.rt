@@ -12,12 +12,15 @@ use crate::ByteStrings;
 use arrow_buffers::{Bitmap, Offset};
 use arrow_bytes::OffsetArray;
 use arrow_flat::{Building, TryClone, ViewBytes, ViewStr, ViewType};
-use arrow_push::{FreshValues, MaskedBuilder, TryExtendFromSelf, ValuesBuilder, ValuesLaws};
+use arrow_push::{
+    FreshValues, MaskedBuilder, ReserveBytes, TryExtendFromSelf, ValuesBuilder, ValuesLaws,
+};
 use arrow_types::{ArrowDataType, Mem, PolarsResult};
 use std::alloc::{AllocError, Global};
 use std::marker::{Model, PhantomData};
 
-/// A builder of binary values or of strings, without nulls, seen as its type and the bytes of each value.
+/// A builder of binary values or of strings, without nulls, seen as its type and the bytes of each
+/// value.
 pub struct OffsetValues<K: ViewType, O: Offset> {
     dtype: ArrowDataType,
     strings: ByteStrings<O>,
@@ -36,7 +39,8 @@ pub type MutableBinaryArray<O> = MaskedBuilder<OffsetValues<ViewBytes, O>>;
 /// A builder of strings and nulls.
 pub type MutableUtf8Array<O> = MaskedBuilder<OffsetValues<ViewStr, O>>;
 
-/// By hand, so that each place where a value may end has one call to prove, and not the drop of every field.
+/// By hand: a place where a value may end then has one call to prove, and not the drop of each
+/// field.
 impl<K: ViewType, O: Offset> Drop for OffsetValues<K, O> {
     fn drop(self) {
         let OffsetValues {
@@ -73,17 +77,21 @@ impl<K: ViewType, O: Offset> Building for OffsetValues<K, O> {
 
     ghost seen = { built_offsets O.limit };
 
-    ghost starts = { λ b. strings_start (strings_refusal O.limit) (type_of b.dtype) b.strings refl };
+    ghost starts = { λ b.
+        strings_start (strings_refusal O.limit) (type_of b.dtype) b.strings refl };
 }
 
 impl<K: ViewType, O: Offset> OffsetValues<K, O> {
     ghost use Rattle.std.specs.Prelude.{◌≡◌, [], None, IfOk};
     ghost use Rattle.arrow_types.specs.Seen.{seen as type_of};
     ghost use Rattle.arrow_flat.specs.Built.{IsCutTo};
+    ghost use Rattle.arrow_push.specs.Arrays.{HoldsValues};
     ghost use Rattle.arrow_push.specs.Masks.{finished_under};
-    ghost use Rattle.arrow_push_bytes.specs.BuiltOffsets.{built_offsets, plain_offset_type, finished_offsets};
+    ghost use Rattle.arrow_push_bytes.specs.BuiltOffsets.{built_offsets, plain_offset_type};
+    ghost use Rattle.arrow_push_bytes.specs.BuiltOffsets.{finished_offsets, offset_array_layout};
 
-    /// No values yet, of the plain type: Binary or Utf8, or their Large form where the offsets are large.
+    /// No values yet, of the plain type: Binary or Utf8, or their Large form where the offsets are
+    /// large.
     pub fn new(alloc: Global) -> Mem<OffsetValues<K, O>>
         ensures empty { IfOk result (λ b. b.strings ≡ []) }
         ensures kind { IfOk result (λ b. type_of b.dtype ≡ plain_offset_type K.IS_TEXT O.IS_LARGE) }
@@ -100,13 +108,16 @@ impl<K: ViewType, O: Offset> OffsetValues<K, O> {
     pub fn finish(&mut self) -> Mem<OffsetArray<K, O>>
         ensures value { IfOk result (λ a. finished_offsets O.number a
             ≡ finished_under None (built_offsets O.limit self.old)) }
-        ensures emptied { IsCutTo 0 (built_offsets O.limit self.old) (built_offsets O.limit self.new) }
+        ensures held { IfOk result (λ a. HoldsValues None
+            (built_offsets O.limit self.old) (offset_array_layout O.number a)) }
+        ensures emptied { IsCutTo 0
+            (built_offsets O.limit self.old) (built_offsets O.limit self.new) }
     {
         self.finish_under(None)
     }
 
-    /// Appends a value. Refused as ComputeError LengthOverflow where the bytes of all values pass the greatest offset. A refused
-    /// call changes nothing.
+    /// Appends a value. Refused as ComputeError LengthOverflow where the bytes of all values pass
+    /// the greatest offset. A refused call changes nothing.
     pub(crate) fn push_bytes(&mut self, value: &[u8]) -> PolarsResult<()>
         requires { AreTextsIf K.IS_TEXT (value.now ∷ []) }
         ensures { Pushes (λ y. y ≡ bytes value.now) (λ y. y ≡ bytes value.now)
@@ -131,11 +142,13 @@ impl<K: ViewType, O: Offset> ValuesLaws for OffsetValues<K, O> {
 }
 
 impl<K: ViewType, O: Offset> ValuesBuilder for OffsetValues<K, O> {
-    ghost use Rattle.arrow_push_bytes.specs.BuiltOffsets.{finished_offsets};
+    ghost use Rattle.arrow_push_bytes.specs.BuiltOffsets.{finished_offsets, offset_array_layout};
 
     type Array = OffsetArray<K, O>;
 
     ghost finished = { finished_offsets O.number };
+
+    ghost layout = { offset_array_layout O.number };
 
     fn dtype(&self) -> &ArrowDataType {
         &self.dtype
@@ -178,6 +191,12 @@ impl<K: ViewType, O: Offset> ValuesBuilder for OffsetValues<K, O> {
         let (offsets, values) = self.strings.finish()?;
         let dtype = self.dtype.try_clone(alloc)?;
         Ok(OffsetArray::new(dtype, offsets, values, validity))
+    }
+}
+
+impl<K: ViewType, O: Offset> ReserveBytes for OffsetValues<K, O> {
+    fn reserve_bytes(&mut self, additional: usize, bytes: usize) -> Mem<()> {
+        self.strings.reserve_bytes(additional, bytes)
     }
 }
 

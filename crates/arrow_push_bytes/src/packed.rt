@@ -1,8 +1,7 @@
 //! The array of values by views.
 ghost use Rattle.std.specs.Prelude.{◌≡◌, length as count, IfOk};
-ghost use Rattle.arrow_flat.specs.Natives.{octets};
-ghost use Rattle.arrow_flat.specs.Primitives.{MaskHasLength, masked_values};
-ghost use Rattle.arrow_views.specs.ViewArrays.{slots};
+ghost use Rattle.arrow_flat.specs.Primitives.{MaskHasLength};
+ghost use Rattle.arrow_views.specs.ViewArrays.{values_of};
 ghost use Rattle.arrow_push_bytes.specs.BuiltViews.{AreViewStrings};
 
 use crate::ByteStrings;
@@ -20,9 +19,7 @@ impl BinaryValues for ByteStrings<i64> {
     }
 
     fn value_at(&self, i: usize) -> &[u8] {
-        let value = self.value(i);
-        know_bytes(value);
-        value
+        self.value(i)
     }
 }
 
@@ -36,7 +33,7 @@ pub(crate) fn packed_array<T: ViewType>(
     requires fits { MaskHasLength validity (count strings.now) }
     requires sound { AreViewStrings T.IS_TEXT record { dtype = dtype.now; strings = strings.now } }
     ensures kind { IfOk result (λ a. a.dtype ≡ dtype.now) }
-    ensures value { IfOk result (λ a. slots a ≡ masked_values validity strings.now) }
+    ensures value { IfOk result (λ a. values_of a ≡ strings.now) }
     ensures mask { IfOk result (λ a. a.mask ≡ validity) }
 {
     let dtype = dtype.try_clone(alloc)?;
@@ -44,8 +41,3 @@ pub(crate) fn packed_array<T: ViewType>(
     let views = Buffer::from_vec(alloc, views)?;
     Ok(BinaryViewArrayGeneric::new(dtype, views, buffers, validity))
 }
-
-/// For proofs alone: each byte is its own number.
-fn know_bytes(bytes: &[u8])
-    ensures { octets bytes.now ≡ bytes.now }
-{}

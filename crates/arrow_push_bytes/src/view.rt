@@ -13,7 +13,9 @@ use crate::ByteStrings;
 use crate::packed::packed_array;
 use arrow_buffers::Bitmap;
 use arrow_flat::{AccessIter, Building, ByteString, TryClone, ViewStr, ViewType};
-use arrow_push::{FreshValues, MaskedBuilder, SolidValues, TryPush, ValuesBuilder, ValuesLaws};
+use arrow_push::{
+    FreshValues, MaskedBuilder, ReserveBytes, SolidValues, TryPush, ValuesBuilder, ValuesLaws,
+};
 use arrow_types::{ArrowDataType, Mem, PolarsError, PolarsResult, Reason};
 use arrow_views::BinaryViewArrayGeneric;
 use std::alloc::{AllocError, Global};
@@ -22,14 +24,16 @@ use std::marker::{Model, PhantomData};
 /// The most bytes that the values have together.
 const MOST_BYTES: usize = 1 << 62;
 
-/// A builder of binary values or of strings, without nulls, of which an array of views is made, seen as its type and the values.
+/// A builder of binary values or of strings, without nulls, of which an array of views is made,
+/// seen as its type and the values.
 pub struct ViewValues<T: ViewType> {
     dtype: ArrowDataType,
     strings: ByteStrings<i64>,
     kind: PhantomData<T>,
 }
 
-/// By hand, so that each place where a value may end has one call to prove, and not the drop of every field.
+/// By hand: a place where a value may end then has one call to prove, and not the drop of each
+/// field.
 impl<T: ViewType> Drop for ViewValues<T> {
     fn drop(self) {
         let ViewValues {
@@ -77,8 +81,8 @@ impl<T: ViewType> ViewValues<T> {
         more <= MOST_BYTES - self.strings.total()
     }
 
-    /// Appends a value. Refused as ComputeError LengthOverflow where it has more than 2^32 - 1 bytes, or all together more than 2^62.
-    /// A refused call changes nothing.
+    /// Appends a value. Refused as ComputeError LengthOverflow where it has more than 2^32 - 1
+    /// bytes, or all together more than 2^62. A refused call changes nothing.
     fn push_bytes(&mut self, value: &[u8]) -> PolarsResult<()>
         requires { AreTextsIf T.IS_TEXT (value.now ∷ []) }
         ensures { Pushes (λ y. y ≡ bytes value.now) (λ y. y ≡ bytes value.now)
@@ -115,11 +119,13 @@ impl<T: ViewType> ValuesLaws for ViewValues<T> {
 }
 
 impl<T: ViewType> ValuesBuilder for ViewValues<T> {
-    ghost use Rattle.arrow_push_bytes.specs.BuiltViews.{finished_views};
+    ghost use Rattle.arrow_push_bytes.specs.BuiltViews.{finished_views, view_array_layout};
 
     type Array = BinaryViewArrayGeneric<T>;
 
     ghost finished = { finished_views };
+
+    ghost layout = { view_array_layout };
 
     fn dtype(&self) -> &ArrowDataType {
         &self.dtype
@@ -165,6 +171,12 @@ impl<T: ViewType> ValuesBuilder for ViewValues<T> {
         let array = packed_array(alloc, &self.dtype, &self.strings, validity);
         self.strings.truncate(0);
         array
+    }
+}
+
+impl<T: ViewType> ReserveBytes for ViewValues<T> {
+    fn reserve_bytes(&mut self, additional: usize, bytes: usize) -> Mem<()> {
+        self.strings.reserve_bytes(additional, bytes)
     }
 }
 

@@ -1,16 +1,17 @@
-//! What no clause says of builders of binary values and of strings: that calls succeed with ample memory, and the generic calls through
-//! their bounds.
+//! What no clause says of builders of binary values and of strings: that calls succeed with ample
+//! memory, and the generic calls through their bounds.
 use arrow_bytes::{BinaryArray, Utf8Array};
 use arrow_push::{TryExtend, TryPush};
 use arrow_push_bytes::{
-    MutableBinaryArray, MutableBinaryValuesArray, MutableFixedSizeBinaryArray, MutableUtf8Array,
-    MutableUtf8ValuesArray, NewSized,
+    MutableBinaryArray, MutableBinaryValuesArray, MutableBinaryViewArray,
+    MutableFixedSizeBinaryArray, MutableUtf8Array, MutableUtf8ValuesArray, NewSized,
 };
 use arrow_types::{ArrowDataType, PolarsResult, Reason};
+use arrow_views::ViewStr;
 use push_fixtures::Call::{
     Append, Extend, Fill, Push, PushRefused, Reserve, ShrinkToFit, Truncate,
 };
-use push_fixtures::{Call, gives, is_copied};
+use push_fixtures::{Call, gives, is_copied, makes_room};
 use std::alloc::Global;
 use std::test::Fail;
 
@@ -185,5 +186,14 @@ fn builders_are_copied(rt: HostRuntime) -> Result<(), Fail> {
     assert!(rt; is_copied(rt.alloc(), MutableBinaryArray::<i32>::new(rt.alloc()))?);
     assert!(rt; is_copied(rt.alloc(), MutableUtf8Array::<i64>::new(rt.alloc()))?);
     assert!(rt; is_copied(rt.alloc(), MutableUtf8ValuesArray::<i32>::new(rt.alloc()))?);
+    let pairs = MutableFixedSizeBinaryArray::new_sized(rt.alloc(), 2);
+    assert!(rt; is_copied(rt.alloc(), pairs)?);
+    Ok(())
+}
+
+#[test]
+fn room_is_made_for_bytes(rt: HostRuntime) -> Result<(), Fail> {
+    assert!(rt; makes_room(MutableBinaryArray::<i32>::new(rt.alloc()), 2, 10)?);
+    assert!(rt; makes_room(MutableBinaryViewArray::<ViewStr>::new(rt.alloc()), 2, 100)?);
     Ok(())
 }

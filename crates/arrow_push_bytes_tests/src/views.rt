@@ -1,5 +1,5 @@
-//! What no clause says of builders of views: that calls succeed with ample memory, and that the clauses mean what builders of views
-//! do.
+//! What no clause says of builders of views: that calls succeed with ample memory, and that the
+//! clauses mean what builders of views do.
 use arrow_push::{NullableBuilder, TryExtend, TryPush};
 use arrow_push_bytes::{ExtendFromLengths, MutableBinaryViewArray};
 use arrow_types::{ArrowDataType, PolarsResult};

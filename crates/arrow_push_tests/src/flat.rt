@@ -1,5 +1,5 @@
-//! What no clause says of builders of numbers and bits: that calls succeed with ample memory, when a mask begins, and the generic
-//! calls through their bounds.
+//! What no clause says of builders of numbers and bits: that calls succeed with ample memory, when
+//! a mask begins, and the generic calls through their bounds.
 use arrow_push::{MutableBooleanArray, MutablePrimitiveArray, TryExtend};
 use arrow_types::{ArrowDataType, Mem, PolarsResult};
 use push_fixtures::Call::{Append, Extend, Fill, Push, Reserve, ShrinkToFit, Truncate};

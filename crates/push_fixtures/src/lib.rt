@@ -8,8 +8,8 @@ use arrow_buffers::Offset;
 use arrow_bytes::{BinaryArray, FixedSizeBinaryArray, Utf8Array};
 use arrow_flat::{BooleanArray, PrimitiveArray, TryClone};
 use arrow_push::{
-    MaskedBuilder, NullableBuilder, SolidValues, TryExtend, TryExtendFromSelf, TryPush,
-    ValuesBuilder,
+    MaskedBuilder, NullableBuilder, ReserveBytes, SolidValues, TryExtend, TryExtendFromSelf,
+    TryPush, ValuesBuilder,
 };
 use arrow_types::{ArrowDataType, Mem, PolarsError, PolarsResult, Reason};
 use arrow_views::{BinaryViewArray, Utf8ViewArray};
@@ -110,7 +110,8 @@ pub fn is_same_type(a: &ArrowDataType, b: &ArrowDataType) -> bool {
     *a == *b
 }
 
-/// Whether the calls give an array of this type and these slots, and leave the builder empty and without a mask.
+/// Whether the calls give an array of this type and these slots, and leave the builder empty and
+/// without a mask.
 fn gives_after<A: Copy, V: ValuesBuilder + SolidValues<A>>(
     builder: &mut MaskedBuilder<V>,
     other: &mut MaskedBuilder<V>,
@@ -131,8 +132,8 @@ where
     Ok(is_right)
 }
 
-/// Whether the calls of a new builder give an array of this type and these slots, and leave it empty and without a mask. The other
-/// new builder is the one whose slots are appended.
+/// Whether the calls of a new builder give an array of this type and these slots, and leave it
+/// empty and without a mask. The other new builder is the one whose slots are appended.
 pub fn gives<A: Copy, V: ValuesBuilder + SolidValues<A> + Drop>(
     builder: Mem<MaskedBuilder<V>>,
     other: Mem<MaskedBuilder<V>>,
@@ -177,6 +178,20 @@ pub fn begins_its_mask<A: Copy, V: ValuesBuilder + SolidValues<A> + Drop>(
     let is_right = masks_after_a_null(&mut builder, value);
     drop(builder);
     is_right
+}
+
+/// Whether a builder makes room for slots that have `bytes` bytes together.
+pub fn makes_room<V: ReserveBytes + Drop>(
+    builder: Mem<MaskedBuilder<V>>,
+    additional: usize,
+    bytes: usize,
+) -> PolarsResult<bool> {
+    let mut builder = builder?;
+    let outcome = builder.reserve_bytes(additional, bytes);
+    let is_right = builder.is_empty();
+    drop(builder);
+    outcome?;
+    Ok(is_right)
 }
 
 /// Whether a builder is copied through the trait.

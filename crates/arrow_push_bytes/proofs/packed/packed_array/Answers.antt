@@ -1,7 +1,7 @@
 use Rattle.std.proofs.Common.{map, ap, sym, ◌∙◌, subst, arith}
 use Rattle.arrow_flat.specs.Natives.{octets}
-use Rattle.arrow_flat.specs.Primitives.{MaskHasLength, masked_values}
-use Rattle.arrow_views.specs.ViewArrays.{slots}
+use Rattle.arrow_flat.specs.Primitives.{MaskHasLength}
+use Rattle.arrow_views.specs.ViewArrays.{values_of}
 use Rattle.arrow_push_bytes.proofs.ViewsPacked.{summed_total, views_count, views_read, views_placed, views_texts}
 use Rattle.arrow_push_bytes.proofs.packed.packed_array.Goals as goal
 
@@ -31,6 +31,5 @@ returns-clause-kind g c = ap (λ a. a.dtype) c.new.ensures ∙ c.in_ok-dtype.ens
 
 pub returns-clause-value : goal.returns-clause-value
 returns-clause-value g c =
-    ap slots c.new.ensures
-    ∙ ap (masked_values c.args.validity)
-    (views_read c.args.strings.now c.in_ok-views-2.views (map octets c.in_ok-views.buffers.items) (c.in_ok-views-2.ensures ∙ c.in_ok-views.ensures.views) c.in_ok-views.ensures.buffers c.requires.sound.packed.fit)
+    ap values_of c.new.ensures
+    ∙ views_read c.args.strings.now c.in_ok-views-2.views (map octets c.in_ok-views.buffers.items) (c.in_ok-views-2.ensures ∙ c.in_ok-views.ensures.views) c.in_ok-views.ensures.buffers c.requires.sound.packed.fit

@@ -19,6 +19,6 @@ invariant_of-self g c =
       bare = cut_bare g.V.ValuesLaws.blank v w b.validity c.truncate_mask.new.validity c.args.len cut.slots_are c.truncate_mask.ensures cut.same_type b.bare;
     }
 
-pub returns : goal.returns
-returns g c =
+pub returns-clause-cut : goal.returns-clause-cut
+returns-clause-cut g c =
     masked_cut g.V.ValuesLaws.blank (g.V.Building.seen c.args.self.now.values) (g.V.Building.seen c.truncate.new.self) c.args.self.now.validity c.truncate_mask.new.validity c.args.len c.truncate.ensures c.truncate_mask.ensures

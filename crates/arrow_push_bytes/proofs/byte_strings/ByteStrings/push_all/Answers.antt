@@ -8,8 +8,8 @@ use Rattle.arrow_push_bytes.specs.Strings.{total_of, IsOverflow}
 use Rattle.arrow_push_bytes.proofs.Strings.{total_append, total_push, total_take}
 use Rattle.arrow_push_bytes.proofs.byte_strings.ByteStrings.push_all.Goals as goal
 
-pub returns-in_err-try_push-clause-pushed : goal.returns-in_err-try_push-clause-pushed
-returns-in_err-try_push-clause-pushed g c =
+pub returns-in_err-try_push-clause-refused : goal.returns-in_err-try_push-clause-refused
+returns-in_err-try_push-clause-refused g c =
     passed_on c.from_residual.result _ _ _ c.from_residual.ensures.1 (by _ c.in_err-try_push.ensures.1)
   where
     by : (e : PolarsError) → IsOverflow g.O.Offset.limit (total_of c.loop-i.self + length c.value.result.now) e
@@ -19,7 +19,7 @@ returns-in_err-try_push-clause-pushed g c =
         let i = c.loop-i.i in
         let other = c.args.other.now in
         let a = ap total_of c.loop-i.invariant.taken ∙ total_append c.args.self.now (take i other) in
-        let b = ap total_of (take_at other i c.value.result.now c.value.ensures) ∙ total_push (take i other) c.value.result.now in
+        let b = ap total_of (take_at other i c.value.result.now c.value.ensures.value) ∙ total_push (take i other) c.value.result.now in
         let d = total_take (i + 1) other in
         let l = p.1 in
         inr (p.0, omega arith)
@@ -28,7 +28,7 @@ pub loop-i-preserved : goal.loop-i-preserved
 loop-i-preserved g c =
     let i = c.loop-i.i in
     let other = c.args.other.now in
-    let more = take_at other i c.value.result.now c.value.ensures in
+    let more = take_at other i c.value.result.now c.value.ensures.value in
     record {
       taken = c.in_ok-try_push.ensures.0 ∙ ap (λ xs. xs ++ c.value.result.now ∷ []) c.loop-i.invariant.taken
           ∙ append_assoc c.args.self.now (take i other) (c.value.result.now ∷ []) ∙ ap (λ xs. c.args.self.now ++ xs) (sym more);

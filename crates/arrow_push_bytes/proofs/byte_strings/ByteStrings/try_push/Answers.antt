@@ -1,8 +1,9 @@
-use Rattle.std.proofs.Common.{◌≡◌, ◌+◌, ◌<◌, ◌≤◌, [], ◌∷◌, ◌++◌, map, length, ap, subst, refl, inl}
+use Rattle.std.proofs.Common.{◌≡◌, ◌+◌, ◌<◌, ◌≤◌, [], ◌∷◌, ◌++◌, map, length, ap, subst, refl, arith, inl}
 use Rattle.std.specs.Prelude.{◌⊎◌}
 use Rattle.arrow_types.specs.declared.error.PolarsError.TheVariants.{ComputeError, OutOfMemory}
 use Rattle.arrow_types.specs.declared.error.Reason.TheVariants.{LengthOverflow}
 use Rattle.arrow_buffers.specs.Offsets.{end_of}
+use Rattle.arrow_views.specs.ViewBytes.{bytes_from}
 use Rattle.arrow_push_bytes.specs.Strings.{AreStrings}
 use Rattle.arrow_push_bytes.proofs.Strings.{own_strings, pieces_are, same_strings, strings_push, strings_end, strings_back}
 use Rattle.arrow_push_bytes.proofs.byte_strings.ByteStrings.try_push.Goals as goal
@@ -48,7 +49,7 @@ invariant_of-self-in_default-extend_from_slice g c =
     let bs = c.self.inside.bytes.items in
     let s = subst (AreStrings os bs) c.self.view_is c.self.invariant in
     own_strings (map number c.try_push.new.self) c.extend_from_slice.new.self.items (c.args.self.now ++ c.args.value.now ∷ [])
-    (strings_push os bs c.args.self.now s (map number c.try_push.new.self) c.extend_from_slice.new.self.items c.args.value.now
+    (strings_push os bs c.args.self.now s (map number c.try_push.new.self) c.extend_from_slice.new.self.items c.args.value.now (bytes_from c.args.value.now (λ i l. omega (arith, c.type_inv.value i)))
     c.in_default.ensures.ok c.in_default-extend_from_slice.ensures.items)
 
 pub returns : goal.returns
@@ -58,7 +59,7 @@ returns g c =
     let bs = c.self.inside.bytes.items in
     let s = subst (AreStrings os bs) c.self.view_is c.self.invariant in (
       pieces_are (map number c.try_push.new.self) c.extend_from_slice.new.self.items (c.args.self.now ++ c.args.value.now ∷ [])
-          (strings_push os bs c.args.self.now s (map number c.try_push.new.self) c.extend_from_slice.new.self.items c.args.value.now
+          (strings_push os bs c.args.self.now s (map number c.try_push.new.self) c.extend_from_slice.new.self.items c.args.value.now (bytes_from c.args.value.now (λ i l. omega (arith, c.type_inv.value i)))
           c.in_default.ensures.ok c.in_default-extend_from_slice.ensures.items),
       subst (λ n. n + length c.args.value.now < g.O.Offset.limit) (strings_end os bs c.args.self.now s) c.in_default.ensures.fits,
     )

@@ -29,12 +29,12 @@ between-requires g c =
     let l = ap length c.as_slice.ensures.value in
     (c.start_end-start.ensures.ordered, omega arith)
 
-pub returns : goal.returns
-returns g c =
+pub returns-clause-value : goal.returns-clause-value
+returns-clause-value g c =
     let number = g.O.Offset.number in
     let os = map number c.self.inside.offsets in
     let range = c.start_end-start.result in
     ap (λ xs. slice_get xs c.args.i) (sym c.self.view_is)
     ∙ ap (λ bs. slice_get (pieces (map to_nat os) bs) c.args.i) (sym c.as_slice.ensures.value)
     ∙ piece_at os c.as_slice.result.now c.args.i range.0 range.1 c.start_end-start.ensures.start c.start_end-start.ensures.end
-    ∙ ap Some (sym c.between.ensures)
+    ∙ ap Some (sym c.between.ensures.value)

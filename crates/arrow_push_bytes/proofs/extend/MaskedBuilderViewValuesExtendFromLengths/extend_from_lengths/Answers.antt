@@ -26,19 +26,19 @@ returns-then-not-has_room_for g c =
     let many : most_bytes < total_of b.values.strings + more = omega (arith, e, m) in
     (same_unchanged (state b) (state b) refl refl, inr (parts_refused b.values b.validity c.args.lengths.now c.args.bytes.now c.requires.lengths few many))
 
-pub returns-in_err-reserve : goal.returns-in_err-reserve
-returns-in_err-reserve g c =
-    let k : IsUnchanged (state c.args.self.now) (state c.reserve.new.self) =
-    same_unchanged (state c.args.self.now) (state c.reserve.new.self) refl c.reserve.ensures in
+pub returns-in_err-reserve_bytes : goal.returns-in_err-reserve_bytes
+returns-in_err-reserve_bytes g c =
+    let k : IsUnchanged (state c.args.self.now) (state c.reserve_bytes.new.self) =
+    same_unchanged (state c.args.self.now) (state c.reserve_bytes.new.self) refl c.reserve_bytes.ensures.slots in
     search (rules, k)
 
 pub returns-in-Err : goal.returns-in-Err
 returns-in-Err g c =
-    let room = c.reserve.new.self in
+    let room = c.reserve_bytes.new.self in
     let p = c.in-Err.ensures in (
-      subst (λ (b : Built). IsUnchanged b (state c.truncate.new.self)) c.reserve.ensures
+      subst (λ (b : Built). IsUnchanged b (state c.truncate.new.self)) c.reserve_bytes.ensures.slots
           (cut_unchanged (state room) (state c.push_parts.new.builder) (state c.truncate.new.self) p.0.0 c.len-before.result
-          (masked_starts (λ t. bytes []) (built_views room.values) room.validity (views_start room.values) room.fits) p.0.1 c.len-before.ensures c.truncate.ensures),
+          (masked_starts (λ t. bytes []) (built_views room.values) room.validity (views_start room.values) room.fits) p.0.1 c.len-before.ensures c.truncate.ensures.cut),
       subst (λ (b : Built). (c.in-Err.error ≡ OutOfMemory) ⊎ (b.refusal (map bytes (parts c.args.lengths.now c.args.bytes.now)) ≡ Some c.in-Err.error))
-          c.reserve.ensures p.1,
+          c.reserve_bytes.ensures.slots p.1,
     )
