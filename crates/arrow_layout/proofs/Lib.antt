@@ -22,6 +22,7 @@ pub mod Masks
 pub mod Named
 pub mod NullForms
 pub mod NullLayouts
+pub mod NullsFit
 pub mod OfValues
 pub mod Physical
 pub mod Pieces

@@ -33,7 +33,7 @@ null_mask_fits (suc n) = (length-replicate (suc n) false, omega arith)
 column_null : (t : TypeData) (f : Form) (n k : ℕ) → form_of t ≡ f → IsCarried t → k ≡ n → k < 2 ^ 64 → IsColumnOf t f (null_mask n) k
 column_null t f n k e c l h = record { carried = c; of_form = e; mask = subst (MaskFits (null_mask n)) (sym l) (null_mask_fits n); count = h }
 
-some_limit : (large : Bool) → 0 < cond large (2 ^ 63) (2 ^ 31)
+pub some_limit : (large : Bool) → 0 < cond large (2 ^ 63) (2 ^ 31)
 some_limit true = omega arith
 some_limit false = omega arith
 
@@ -47,15 +47,15 @@ offsets_within f top n = record {
   ascend = ascend_zeros top n;
 }
 
-no_pieces : (P : List ℕ → Type 0) (n : ℕ) → P [] → AllByRecursion P (pieces_from 0 (map nat_of (replicate n (pos 0))) [])
+pub no_pieces : (P : List ℕ → Type 0) (n : ℕ) → P [] → AllByRecursion P (pieces_from 0 (map nat_of (replicate n (pos 0))) [])
 no_pieces P zero h = tt
 no_pieces P (suc n) h = (h, no_pieces P n h)
 
-no_views : (P : List ℕ → Type 0) (n : ℕ) → P [] → AllByRecursion P (map (view_bytes []) (replicate n zero_view))
+pub no_views : (P : List ℕ → Type 0) (n : ℕ) → P [] → AllByRecursion P (map (view_bytes []) (replicate n zero_view))
 no_views P zero h = tt
 no_views P (suc n) h = (h, no_views P n h)
 
-zero_is_view : IsView [] zero_view
+pub zero_is_view : IsView [] zero_view
 zero_is_view = (omega arith, refl, refl, all_replicate (λ b. b < 256) 12 0 (omega arith))
 
 flat_null : (t : TypeData) (f : Form) (n : ℕ) → form_of t ≡ f → IsFlatForm f → IsHereBy f → IsCarried t → Fits (flat_nulls t f n) → WellFormed (flat_nulls t f n)
@@ -189,7 +189,7 @@ mutual
 
 -- ---- no slots
 
-fits_under : (u : TypeData) (l : Layout) → form_of u ≡ form_of (type_of l) → Fits l → Fits (retyped u l)
+pub fits_under : (u : TypeData) (l : Layout) → form_of u ≡ form_of (type_of l) → Fits l → Fits (retyped u l)
 fits_under u (binaries t m os bs) e h = (h.0, subst (λ f. AllByRecursion (IsBelow (offset_limit f)) os) (sym e) h.1)
 fits_under u (lists t m os l) e h = (h.0, subst (λ f. AllByRecursion (IsBelow (offset_limit f)) os) (sym e) h.1, h.2)
 fits_under u _ e h = h
@@ -215,7 +215,7 @@ mutual
   none_fit (T.extension e t m) = fits_under (T.extension e t m) (null_layout t 0) (ap form_of (sym (type-null t 0))) (none_fit t)
   none_fit t = flat_none t (form_of t)
 
-  all_none_fit : (fs : FieldList) → AllFit (null_layouts fs 0)
+  pub all_none_fit : (fs : FieldList) → AllFit (null_layouts fs 0)
   all_none_fit no_fields = tt
   all_none_fit (and_field (T.field a t b m) fs) = (none_fit t, all_none_fit fs)
 

@@ -10,6 +10,7 @@ pub mod Layouts
 pub mod Masks
 pub mod NodeCount
 pub mod NullLayout
+pub mod NullsFit
 pub mod Nulled
 pub mod OfValues
 pub mod Paths

@@ -7,3 +7,7 @@ pub mod KeysNamed
 pub mod NodeParts
 pub mod Octets
 pub mod Primitives
+pub mod FieldTypes
+pub mod NullParts
+pub mod NullTypes
+pub mod NullArrays

@@ -1,6 +1,6 @@
 -- Parts of nodes: the keys of dictionaries, the offsets and the shift of unions, and the children.
-use Rattle.std.proofs.Common.{◌≡◌, ℕ, ◌+◌, ◌*◌, ◌^◌, ◌<◌, ◌≤◌, List, length, map, take, drop, Bool, Option, Some, None, refl, ap, sym, ◌∙◌, subst, arith}
-use Rattle.std.specs.Prelude.{ℤ, ⊤}
+use Rattle.std.proofs.Common.{◌≡◌, ℕ, ◌+◌, ◌^◌, ◌<◌, ◌≤◌, List, length, Option, Some, None, refl, ap, sym, ◌∙◌, arith}
+use Rattle.std.specs.Prelude.{ℤ}
 use Rattle.std.proofs.lemmas.List.{length-map}
 use Rattle.arrow_buffers.specs.Bits.{Bits}
 use Rattle.arrow_flat.specs.Primitives.{MaskHasLength, IsLed, cut_mask}
@@ -15,10 +15,9 @@ use Rattle.arrow_types.specs.declared.datatype.PhysicalType.{PhysicalType}
 use Rattle.arrow_types.specs.declared.datatype.PhysicalType.TheVariants as physical
 use Rattle.arrow_types.specs.declared.datatype.PrimitiveType.{PrimitiveType}
 use Rattle.arrow_types.specs.declared.datatype.PrimitiveType.TheVariants as primitive
-use Rattle.arrow_layout.specs.Cut.{cut, part}
+use Rattle.arrow_layout.specs.Cut.{cut}
 use Rattle.arrow_layout.specs.FitsHere.{FitsHere, HaveLengths}
 use Rattle.arrow_layout.specs.Layouts.{Layout, Layouts, child, dense_unions, dictionaries, length_of, lengths_of, no_layouts, primitives, sparse_unions, type_of}
-use Rattle.arrow_layout.specs.Masks.{with_mask}
 use Rattle.arrow_layout.specs.WellFormed.{AreWellFormed, MaskFits, WellFormed}
 use Rattle.arrow_layout.proofs.CutForms.{cut_well_formed, type-cut}
 use Rattle.arrow_layout.proofs.Cuts.{part-map}

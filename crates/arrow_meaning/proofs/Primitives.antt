@@ -1,8 +1,7 @@
 -- The layout of a primitive array.
-use Rattle.std.proofs.Common.{◌≡◌, ◌^◌, ◌<◌, ℕ, Bool, true, false, cond, List, [], ◌∷◌, length, refl, ap, sym, ◌∙◌, subst, arith, Option, Some, None}
+use Rattle.std.proofs.Common.{◌≡◌, ◌^◌, ◌<◌, ℕ, true, false, List, [], ◌∷◌, length, ap, sym, ◌∙◌, subst, arith, Option, Some, None}
 use Rattle.std.specs.Prelude.{ℤ, map}
 use Rattle.std.specs.List.{AllByRecursion}
-use Rattle.std.specs.Simd.Lanes.{zip2}
 use Rattle.std.proofs.lemmas.List.{length-map}
 use Rattle.arrow_buffers.specs.Bits.{Bits}
 use Rattle.arrow_types.specs.Seen.{seen}
@@ -12,9 +11,7 @@ use Rattle.arrow_types.specs.Types.{physical_of}
 use Rattle.arrow_types.specs.declared.datatype.PhysicalType.TheVariants as physical
 use Rattle.arrow_types.specs.declared.datatype.PrimitiveType.{PrimitiveType}
 use Rattle.arrow_flat.specs.Numbers.{IsNumber}
-use Rattle.arrow_flat.specs.Primitives.{Primitives, MaskHasLength as MaskCovers, IsLed, IsSound, masked_values as option_masked}
-use Rattle.arrow_flat.specs.Slots.{null, num}
-use Rattle.arrow_layout.specs.Denote.{masked_by, masked}
+use Rattle.arrow_flat.specs.Primitives.{Primitives, MaskHasLength as MaskCovers, IsLed, IsSound}
 use Rattle.arrow_layout.specs.Forms.{Form, nulls_of, booleans_of, primitives_of, binaries_of, fixed_size_binaries_of, views_of, lists_of, fixed_size_lists_of, structs_of, unions_of, dictionaries_of, no_form, form_of, primitive_by}
 use Rattle.arrow_layout.specs.Layouts.{primitives}
 use Rattle.arrow_meaning.specs.Nodes.{primitive_layout}

@@ -1,5 +1,6 @@
 pub mod FlatSlots
 pub mod Nodes
 pub mod NodesFall
+pub mod NullParts
 pub mod Refusals
 pub mod Storable

@@ -82,6 +82,11 @@ abbrev pub list_offsets : Layout → List ℤ
 list_offsets (lists t m os l) = os
 list_offsets _ = []
 
+-- The size of the lists, of fixed-size lists.
+abbrev pub list_size : Layout → ℕ
+list_size (fixed_size_lists t m k n l) = k
+list_size _ = 0
+
 -- Dense with offsets, sparse without.
 abbrev pub union_layout : ArrowDataType → List ℤ → Option (List ℤ) → Layouts → ℕ → Layout
 union_layout t ts (Some os) ls shift = dense_unions (seen t) shift ts os ls

@@ -25,13 +25,15 @@ use std::alloc::Global;
 use std::marker::Model;
 use std::rc::Rc;
 
-/// An array of any layout, which may be shared. Contracts see it as its `Layout`, which is well formed.
+/// An array of any layout, which may be shared. Contracts see it as its `Layout`, which is well
+/// formed.
 #[cycle(array)]
 pub struct ArrayRef {
     node: Rc<Node>,
 }
 
-/// By hand, so that each place where a value may end has one call to prove, and not the drop of every field.
+/// By hand, so that each place where a value may end has one call to prove, and not the drop of
+/// every field.
 impl Drop for ArrayRef {
     #[cycle(array)]
     fn drop(self) {
@@ -63,8 +65,9 @@ impl Model for ArrayRef {
 }
 
 impl ArrayRef {
-    /// The array of this node, whose own conditions hold: of a flat array there are none beside its own, and of another
-    /// layout they are those of the Arrow Columnar Format on its parts, and that the variant is the physical type.
+    /// The array of this node, whose own conditions hold: of a flat array there are none beside its
+    /// own, and of another layout they are those of the Arrow Columnar Format on its parts, and
+    /// that the variant is the physical type.
     pub fn from_node(alloc: Global, node: Node) -> Mem<ArrayRef>
         requires { IsSoundNode node }
         ensures { IfOk result (λ a. a ≡ layout_of node) }
@@ -185,7 +188,8 @@ impl ArrayRef {
         self.node().validity()
     }
 
-    /// The count of nulls: all slots of a null array, and else those whose bit in the mask is unset.
+    /// The count of nulls: all slots of a null array, and else those whose bit in the mask is
+    /// unset.
     pub fn null_count(&self) -> usize
         ensures { result ≡ null_count_of self.now }
     {
@@ -221,7 +225,8 @@ impl ArrayRef {
         !self.is_valid(i)
     }
 
-    /// Keeps the `length` slots from `offset` on; a mask without nulls is dropped. Out of memory leaves the array.
+    /// Keeps the `length` slots from `offset` on; a mask without nulls is dropped. Out of memory
+    /// leaves the array.
     pub fn slice(&mut self, alloc: Global, offset: usize, length: usize) -> Mem<()>
         requires { offset + length ≤ length_of self.old }
         ensures cut { OnOk result (self.new ≡ cut self.old offset length) }
@@ -234,18 +239,21 @@ impl ArrayRef {
     /// The first `offset` slots, and the others.
     pub fn split_at_boxed(&self, alloc: Global, offset: usize) -> Mem<(ArrayRef, ArrayRef)>
         requires { offset ≤ length_of self.now }
-        ensures { IfOk result (λ p. (p.0 ≡ cut self.now 0 offset) × (p.1 ≡ cut self.now offset (length_of self.now - offset))) }
+        ensures { IfOk result (λ p. (p.0 ≡ cut self.now 0 offset)
+            × (p.1 ≡ cut self.now offset (length_of self.now - offset))) }
     {
         let first = self.sliced(alloc, 0, offset)?;
         let rest = self.sliced(alloc, offset, self.len() - offset)?;
         Ok((first, rest))
     }
 
-    /// The same values under another mask, or none; a null array stays. Refused as InvalidOperation: UnionValidity exactly
-    /// for a union, KeyRange exactly where a slot that is valid under the new mask has a key that names no value.
+    /// The same values under another mask, or none; a null array stays. Refused as
+    /// InvalidOperation: UnionValidity exactly for a union, KeyRange exactly where a slot that is
+    /// valid under the new mask has a key that names no value.
     pub fn with_validity(&self, alloc: Global, validity: Option<Bitmap>) -> PolarsResult<ArrayRef>
         requires { MaskHasLength validity (length_of self.now) }
-        ensures ok { IfOk result (λ a. (a ≡ with_mask validity self.now) × TakesMask validity self.now) }
+        ensures ok { IfOk result (λ a. (a ≡ with_mask validity self.now)
+            × TakesMask validity self.now) }
         ensures refused { IfErr result (λ e. MaskRefused e validity self.now) }
     {
         let node = self.node();
@@ -300,7 +308,8 @@ fn is_valid(validity: Option<&Bitmap>, i: usize) -> bool
     }
 }
 
-/// That the node takes the mask: a union takes none, and under the mask each key that is valid names a value.
+/// That the node takes the mask: a union takes none, and under the mask each key that is valid
+/// names a value.
 fn check_mask(node: &Node, validity: &Option<Bitmap>) -> PolarsResult<()>
     requires { MaskHasLength validity.now (length_of (layout_of node.now)) }
     ensures ok { IfOk result (λ done. TakesMask validity.now (layout_of node.now)) }
@@ -320,7 +329,7 @@ fn check_mask(node: &Node, validity: &Option<Bitmap>) -> PolarsResult<()>
 }
 
 /// For proofs alone: what each of the arrays keeps.
-pub(crate) fn all_invariant(arrays: &[ArrayRef])
+pub fn all_invariant(arrays: &[ArrayRef])
     ensures { AllWellFormed (layouts arrays.now) }
 {
     for array in arrays {

@@ -31,7 +31,8 @@ pub(crate) fn clone_map(
     child: &ArrayRef,
     validity: &Option<Bitmap>,
 ) -> Mem<Node>
-    ensures same { IfOk result (λ n. layout_of n ≡ list_layout (λ o. o) dtype.now offsets.now child.now validity.now) }
+    ensures same { IfOk result (λ n. layout_of n
+        ≡ list_layout (λ o. o) dtype.now offsets.now child.now validity.now) }
     ensures kind { IfOk result (λ n. node_physical n ≡ physical.Map) }
 {
     Ok(Node::Map {
@@ -51,7 +52,8 @@ pub(crate) fn clone_fixed_size_list(
     child: &ArrayRef,
     validity: &Option<Bitmap>,
 ) -> Mem<Node>
-    ensures same { IfOk result (λ n. layout_of n ≡ fixed_size_lists (seen dtype.now) validity.now size length child.now) }
+    ensures same { IfOk result (λ n. layout_of n
+        ≡ fixed_size_lists (seen dtype.now) validity.now size length child.now) }
     ensures kind { IfOk result (λ n. node_physical n ≡ physical.FixedSizeList) }
 {
     Ok(Node::FixedSizeList {
@@ -71,7 +73,8 @@ pub(crate) fn clone_struct(
     children: &[ArrayRef],
     validity: &Option<Bitmap>,
 ) -> Mem<Node>
-    ensures same { IfOk result (λ n. layout_of n ≡ structs (seen dtype.now) validity.now length (layouts children.now)) }
+    ensures same { IfOk result (λ n. layout_of n
+        ≡ structs (seen dtype.now) validity.now length (layouts children.now)) }
     ensures kind { IfOk result (λ n. node_physical n ≡ physical.Struct) }
 {
     Ok(Node::Struct {
@@ -91,7 +94,8 @@ pub(crate) fn clone_union(
     children: &[ArrayRef],
     shift: usize,
 ) -> Mem<Node>
-    ensures same { IfOk result (λ n. layout_of n ≡ union_layout dtype.now types.now offsets.now (layouts children.now) shift) }
+    ensures same { IfOk result (λ n. layout_of n
+        ≡ union_layout dtype.now types.now offsets.now (layouts children.now) shift) }
     ensures kind { IfOk result (λ n. node_physical n ≡ physical.Union) }
 {
     Ok(Node::Union {
@@ -110,7 +114,8 @@ pub(crate) fn clone_dictionary(
     keys: &KeyNode,
     child: &ArrayRef,
 ) -> Mem<Node>
-    ensures same { IfOk result (λ n. layout_of n ≡ dictionary_layout dtype.now (key_layout keys.now) child.now) }
+    ensures same { IfOk result (λ n. layout_of n
+        ≡ dictionary_layout dtype.now (key_layout keys.now) child.now) }
     ensures kind { IfOk result (λ n. node_physical n ≡ physical.Dictionary (key_type_of keys.now)) }
 {
     Ok(Node::Dictionary {

@@ -70,7 +70,8 @@ fn sliced_all(
     length: usize,
 ) -> Mem<Vec<ArrayRef>>
     requires { HaveLengths (λ i. offset + length ≤ i) (layouts arrays.now) }
-    ensures { IfOk result (λ parts. layouts parts.items ≡ cut_each (layouts arrays.now) offset length) }
+    ensures { IfOk result (λ parts. layouts parts.items
+        ≡ cut_each (layouts arrays.now) offset length) }
 {
     let mut parts = Vec::new(alloc);
     for array in arrays {
@@ -105,7 +106,8 @@ fn cut_fixed_size_list(
 ) -> Mem<Node>
     requires { HasRange validity.now offset length }
     ensures same { IfOk result (λ n. layout_of n
-        ≡ fixed_size_lists (seen dtype.now) (cut_mask offset length validity.now) size length child) }
+        ≡ fixed_size_lists (seen dtype.now) (cut_mask offset length validity.now)
+        size length child) }
     ensures kind { IfOk result (λ n. node_physical n ≡ physical.FixedSizeList) }
 {
     Ok(Node::FixedSizeList {
@@ -128,7 +130,8 @@ fn cut_struct(
 ) -> Mem<Node>
     requires { HasRange validity.now offset length }
     ensures same { IfOk result (λ n. layout_of n
-        ≡ structs (seen dtype.now) (cut_mask offset length validity.now) length (layouts children.items)) }
+        ≡ structs (seen dtype.now) (cut_mask offset length validity.now) length
+        (layouts children.items)) }
     ensures kind { IfOk result (λ n. node_physical n ≡ physical.Struct) }
 {
     Ok(Node::Struct {
@@ -170,7 +173,8 @@ pub(crate) fn slice_list<O: Offset>(
     slice_mask(validity, offset, length);
 }
 
-/// Keeps the slots of a union from `offset` on: dense offsets are cut, and a sparse union's shift rises.
+/// Keeps the slots of a union from `offset` on: dense offsets are cut, and a sparse union's shift
+/// rises.
 pub(crate) fn slice_union(
     types: &mut Buffer<i8>,
     offsets: &mut Option<Buffer<i32>>,

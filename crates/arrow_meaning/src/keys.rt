@@ -141,7 +141,7 @@ pub trait NodeKey: NodeNative {
 }
 
 /// Whether each key that is valid under the mask names one of `values` values.
-fn name_values<K: NodeKey>(
+pub fn name_values<K: NodeKey>(
     keys: &PrimitiveArray<K>,
     validity: &Option<Bitmap>,
     values: usize,

@@ -1,5 +1,5 @@
-//! Laws of flat arrays: what they read is what their layouts denote. The contract of each function is the law; its body
-//! does nothing.
+//! Laws of flat arrays: what they read is what their layouts denote. The contract of each function
+//! is the law; its body does nothing.
 ghost use Rattle.std.specs.Prelude.{◌≡◌, length, map};
 ghost use Rattle.arrow_bytes.specs.Binaries as binaries;
 ghost use Rattle.arrow_bytes.specs.Binaries.{Binaries};
@@ -19,8 +19,8 @@ ghost use Rattle.arrow_views.specs.ViewArrays.{ViewArray};
 use arrow_buffers::Offset;
 use arrow_flat::NativeType;
 
-/// Of an array of single bits: `get` and `iter` read the slots that its layout denotes, `value` and `values_iter` those
-/// with the mask left aside.
+/// Of an array of single bits: `get` and `iter` read the slots that its layout denotes, `value` and
+/// `values_iter` those with the mask left aside.
 pub fn booleans_denote()
     ensures slots { (a : Booleans) → MaskHasLength a.mask (length a.values.bits)
         → denote (boolean_layout a) ≡ map (slot_or_null bool) (booleans.slots a) }

@@ -104,7 +104,8 @@ pub enum Node {
     },
 }
 
-/// What `$body` gives of a flat array `$array`, of whichever kind, and what each further arm gives of the others.
+/// What `$body` gives of a flat array `$array`, of whichever kind, and what each further arm gives
+/// of the others.
 macro_rules! of_flat {
     ($node:expr, $array:ident => $body:expr, $($pattern:pat => $other:expr,)+) => {
         match $node {
@@ -264,7 +265,8 @@ impl Node {
         }
     }
 
-    /// Keeps the `length` slots from `offset` on, where no child is cut with them; a mask without nulls is dropped.
+    /// Keeps the `length` slots from `offset` on, where no child is cut with them; a mask without
+    /// nulls is dropped.
     pub(crate) fn slice(&mut self, offset: usize, length: usize)
         requires within { offset + length ≤ length_of (layout_of self.old) }
         requires sound { WellFormed (layout_of self.old) }
@@ -290,7 +292,8 @@ impl Node {
         )
     }
 
-    /// Puts another mask, or none, in the mask's place; a null array and a union have none, and stay.
+    /// Puts another mask, or none, in the mask's place; a null array and a union have none, and
+    /// stay.
     pub(crate) fn set_validity(&mut self, validity: Option<Bitmap>)
         requires { MaskHasLength validity (length_of (layout_of self.old)) }
         ensures same { layout_of self.new ≡ with_mask validity (layout_of self.old) }

@@ -7,14 +7,14 @@ use crate::fixtures::{
     three_texts,
 };
 use arrow_buffers::{Bitmap, Buffer, Offset, OffsetsBuffer};
-use arrow_bytes::{BinaryArray, FixedSizeBinaryArray, Utf8Array};
+use arrow_bytes::{BinaryArray, FixedSizeBinaryArray, OffsetArray, Utf8Array};
 use arrow_canon::{
-    canonical_binary, canonical_boolean, canonical_fixed_size_binary, canonical_primitive,
+    Run, canonical_binary, canonical_boolean, canonical_fixed_size_binary, canonical_primitive,
     normalized,
 };
-use arrow_flat::{BooleanArray, DaysMs, NativeType, PrimitiveArray};
+use arrow_flat::{BooleanArray, DaysMs, NativeType, PrimitiveArray, ViewType};
 use arrow_meaning::{ArrayRef, Node};
-use arrow_types::{ArrowDataType, IntervalUnit};
+use arrow_types::{ArrowDataType, GrowError, IntervalUnit};
 use std::alloc::Global;
 use std::test::Fail;
 
@@ -23,7 +23,9 @@ fn canonical_numbers<T: NativeType>(
     alloc: Global,
     array: PrimitiveArray<T>,
 ) -> Result<PrimitiveArray<T>, Fail> {
-    let canonical = canonical_primitive(alloc, &array);
+    let length = array.len();
+    let runs = [Run::Slots { start: 0, length }];
+    let canonical = canonical_primitive(alloc, &array, array.dtype(), &runs);
     drop(array);
     Ok(canonical?)
 }
@@ -51,6 +53,45 @@ fn numbers_are_zeros_under_nulls(rt: HostRuntime) -> Result<(), Fail> {
     Ok(())
 }
 
+/// The last two of three slots, a filling, and the first slot.
+fn picked_numbers(alloc: Global, array: PrimitiveArray<u8>) -> Result<PrimitiveArray<u8>, Fail> {
+    let runs = [
+        Run::Slots {
+            start: 1,
+            length: 2,
+        },
+        Run::Fill { count: 1 },
+        Run::Slots {
+            start: 0,
+            length: 1,
+        },
+    ];
+    let canonical = if array.len() == 3 {
+        canonical_primitive(alloc, &array, array.dtype(), &runs)
+    } else {
+        Err(GrowError::Overflow)
+    };
+    drop(array);
+    Ok(canonical?)
+}
+
+/// Whether these are a null, 3, a null, and 1.
+fn are_picked(numbers: &PrimitiveArray<u8>) -> bool {
+    numbers.values().as_slice() == [0, 3, 0, 1].as_slice()
+        && is_plain(numbers.validity(), &[false, true, false, true])
+}
+
+#[test]
+fn runs_pick_slots_and_fillings(rt: HostRuntime) -> Result<(), Fail> {
+    let alloc = rt.alloc();
+    let numbers = three_numbers(alloc)?;
+    let numbers = picked_numbers(alloc, numbers)?;
+    let is_right = are_picked(&numbers);
+    drop(numbers);
+    assert!(rt; is_right);
+    Ok(())
+}
+
 /// Two values of days and milliseconds under a mask without nulls.
 fn spans(alloc: Global) -> Result<PrimitiveArray<DaysMs>, Fail> {
     let values = buffer_of(alloc, &[DaysMs(1, 2), DaysMs(3, 4)])?;
@@ -73,7 +114,9 @@ fn a_mask_without_nulls_is_dropped(rt: HostRuntime) -> Result<(), Fail> {
 fn canonical_bits(alloc: Global, validity: Option<Bitmap>) -> Result<BooleanArray, Fail> {
     let values = Bitmap::from_bools(alloc, &[false, true, true])?;
     let array = BooleanArray::try_new(ArrowDataType::Boolean, values, validity)?;
-    let canonical = canonical_boolean(alloc, &array);
+    let length = array.len();
+    let runs = [Run::Slots { start: 0, length }];
+    let canonical = canonical_boolean(alloc, &array, array.dtype(), &runs);
     drop(array);
     Ok(canonical?)
 }
@@ -118,11 +161,21 @@ fn are_pairs_of_zeros_under_the_null(pairs: &FixedSizeBinaryArray) -> bool {
         && is_plain(pairs.validity(), &[true, false, true])
 }
 
+/// The canonical array of all slots.
+fn canonical_pairs(
+    alloc: Global,
+    pairs: &FixedSizeBinaryArray,
+) -> Result<FixedSizeBinaryArray, GrowError> {
+    let length = pairs.len();
+    let runs = [Run::Slots { start: 0, length }];
+    canonical_fixed_size_binary(alloc, pairs, pairs.dtype(), &runs)
+}
+
 #[test]
 fn bytes_of_one_size_are_zeros_under_nulls(rt: HostRuntime) -> Result<(), Fail> {
     let alloc = rt.alloc();
     let pairs = pairs(alloc)?;
-    let canonical = canonical_fixed_size_binary(alloc, &pairs);
+    let canonical = canonical_pairs(alloc, &pairs);
     drop(pairs);
     let canonical = canonical?;
     let is_right = are_pairs_of_zeros_under_the_null(&canonical);
@@ -178,9 +231,19 @@ fn are_moved_texts<O: Offset>(texts: &Utf8Array<O>) -> bool {
     are_moved_up(texts.offsets(), texts.values(), texts.validity(), b"ad")
 }
 
+/// The canonical array of all slots.
+fn canonical_strings<K: ViewType, O: Offset>(
+    alloc: Global,
+    array: &OffsetArray<K, O>,
+) -> Result<OffsetArray<K, O>, GrowError> {
+    let length = array.len();
+    let runs = [Run::Slots { start: 0, length }];
+    canonical_binary(alloc, array, array.dtype(), &runs)
+}
+
 fn strings_move_up<O: Offset>(alloc: Global) -> Result<bool, Fail> {
     let array = three_strings::<O>(alloc)?;
-    let canonical = canonical_binary(alloc, &array);
+    let canonical = canonical_strings(alloc, &array);
     drop(array);
     let strings = canonical?;
     let is_right = are_moved_strings(&strings);
@@ -190,7 +253,7 @@ fn strings_move_up<O: Offset>(alloc: Global) -> Result<bool, Fail> {
 
 fn texts_move_up<O: Offset>(alloc: Global) -> Result<bool, Fail> {
     let array = three_texts::<O>(alloc)?;
-    let canonical = canonical_binary(alloc, &array);
+    let canonical = canonical_strings(alloc, &array);
     drop(array);
     let texts = canonical?;
     let is_right = are_moved_texts(&texts);

@@ -8,4 +8,6 @@ mod canon;
 #[cfg(test)]
 mod fixtures;
 #[cfg(test)]
+mod nulls;
+#[cfg(test)]
 mod views;

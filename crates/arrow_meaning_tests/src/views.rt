@@ -1,7 +1,7 @@
 //! The canonical arrays of byte strings and texts by views.
 use crate::fixtures::{buffer_of, is_plain};
 use arrow_buffers::{Bitmap, Buffer};
-use arrow_canon::canonical_view;
+use arrow_canon::{Run, canonical_view};
 use arrow_types::{ArrowDataType, Mem};
 use arrow_views::{BinaryViewArrayGeneric, View, ViewBytes, ViewStr, ViewType};
 use std::alloc::Global;
@@ -16,7 +16,8 @@ fn one_buffer(alloc: Global) -> Mem<Vec<Buffer<u8>>> {
     Ok(vec![in alloc; buffer]?)
 }
 
-/// The views of a long value, of another that stands before it, of a short one, and of a second long one.
+/// The views of a long value, of another that stands before it, of a short one, and of a second
+/// long one.
 fn four_views(alloc: Global) -> Mem<Buffer<View>> {
     let views = [
         View::new_long(16, *b"firs", 0, 19),
@@ -27,7 +28,8 @@ fn four_views(alloc: Global) -> Mem<Buffer<View>> {
     buffer_of(alloc, &views)
 }
 
-/// A long value, a null over another, a short value and a second long one; the null's bytes stand first in the buffer.
+/// A long value, a null over another, a short value and a second long one; the null's bytes stand
+/// first in the buffer.
 fn scattered_views<T: ViewType>(alloc: Global) -> Result<BinaryViewArrayGeneric<T>, Fail> {
     let views = four_views(alloc)?;
     let mask = Bitmap::from_bools(alloc, &[true, false, true, true])?;
@@ -45,7 +47,8 @@ fn are_these(buffers: &[Buffer<u8>], wanted: &[u8]) -> bool {
     buffers.len() == 1 && buffers[0].as_slice() == wanted
 }
 
-/// Whether the two long values follow one another from 0 on, and the null's view is that of no bytes.
+/// Whether the two long values follow one another from 0 on, and the null's view is that of no
+/// bytes.
 fn is_packed<T: ViewType>(array: &BinaryViewArrayGeneric<T>) -> bool {
     let wanted = [
         View::new_long(16, *b"firs", 0, 0),
@@ -60,7 +63,9 @@ fn is_packed<T: ViewType>(array: &BinaryViewArrayGeneric<T>) -> bool {
 
 fn views_are_packed<T: ViewType>(alloc: Global) -> Result<bool, Fail> {
     let array = scattered_views::<T>(alloc)?;
-    let canonical = canonical_view(alloc, &array);
+    let length = array.len();
+    let runs = [Run::Slots { start: 0, length }];
+    let canonical = canonical_view(alloc, &array, array.dtype(), &runs);
     drop(array);
     let packed = canonical?;
     let is_right = is_packed(&packed);

@@ -1,4 +1,4 @@
-use Rattle.std.proofs.Common.{ap, subst, sym, ◌∙◌}
+use Rattle.std.proofs.Common.{subst, sym, ◌∙◌}
 use Rattle.std.proofs.lemmas.Bool.{false≢true}
 use Rattle.arrow_layout.specs.Masks.{KeysInRange}
 use Rattle.arrow_meaning.specs.Nodes.{AreKeysBelow, key_layout, layout_of}

@@ -1,4 +1,4 @@
-use Rattle.std.proofs.Common.{◌≡◌, ◌<◌, add-one, arith, length, refl, subst, sym, ◌∙◌}
+use Rattle.std.proofs.Common.{◌<◌, add-one, arith, length, refl, sym, ◌∙◌}
 use Rattle.std.proofs.lemmas.Bool.{false≢true}
 use Rattle.arrow_meaning.proofs.KeysNamed.{Names, below_keys, keys_below, named_all, named_at, named_skip, named_step}
 use Rattle.arrow_meaning.proofs.keys.name_values.Goals as goal

@@ -1,0 +1,7 @@
+use Rattle.arrow_meaning.proofs.NullArrays.{null_stored}
+use Rattle.arrow_types.specs.Seen.{seen}
+use Rattle.arrow_meaning.proofs.typed.TypedArray.new_empty.Goals as goal
+
+pub unreachable-requires : goal.unreachable-requires
+unreachable-requires g c =
+    c.in-Err.ensures.1 (null_stored (seen c.args.dtype) 0 c.in_ok-new_empty_array.field-0 g.Self.TypedArray.physical c.in_ok-new_empty_array.ensures.ok c.requires)
