@@ -1,0 +1,5 @@
+pub mod FixedSizeLists
+pub mod Lists
+pub mod NonNull
+pub mod Nulls
+pub mod Structs

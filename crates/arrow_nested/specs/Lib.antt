@@ -1,0 +1,5 @@
+pub mod FixedSizeLists
+pub mod Lists
+pub mod NullLaws
+pub mod Nulls
+pub mod Structs
