@@ -1,0 +1,4 @@
+pub mod Appended
+pub mod Bare
+pub mod SlotParts
+pub mod Spellings
