@@ -1,54 +1,44 @@
--- The canonical array of byte strings of one size.
-use Rattle.std.proofs.Common.{◌≡◌, ℕ, zero, suc, ◌+◌, ◌*◌, ◌/◌, ◌%◌, ◌<◌, ◌≤◌, Bool, true, false, cond, List, [], ◌∷◌, length, map, drop, flat_map, replicate, refl, ap, ap₂, sym, subst, ◌∙◌, arith, length-append, Option, Some, None}
+-- The canonical array of picked binary values of one size.
+use Rattle.std.proofs.Common.{◌≡◌, ℕ, zero, suc, ◌+◌, ◌*◌, ◌/◌, ◌%◌, ◌^◌, ◌<◌, ◌≤◌, Bool, true, false, cond, List, [], ◌∷◌, length, map, drop, get_or, flat_map, replicate, refl, ap, ap₂, sym, subst, ◌∙◌, arith, length-append, Option, Some, None}
 use Rattle.std.specs.Prelude.{unwrap_or}
 use Rattle.std.specs.List.{AllByRecursion}
 use Rattle.std.specs.Simd.Lanes.{zip2}
 use Rattle.std.proofs.lemmas.List.{take-map, drop-map, length-map, length-take-le, length-drop, length-replicate}
+use Rattle.std.proofs.lemmas.List.Folds.{flat_map-map}
 use Rattle.std.proofs.Math.Nat.{div-mul-le_self}
 use Rattle.arrow_buffers.specs.Bits.{Bits}
-use Rattle.arrow_bytes.specs.FixedSizeBinaries.{FixedSizeBinaries, IsSound, size_or_zero, slot_count, values_of, slots}
+use Rattle.arrow_bytes.specs.FixedSizeBinaries.{FixedSizeBinaries, IsSound, declared_size, size_or_zero, slot_count, values_of, slots}
 use Rattle.arrow_types.specs.Seen.{seen}
 use Rattle.arrow_types.specs.TypeData.{TypeData}
-use Rattle.arrow_types.specs.declared.datatype.ArrowDataType.{ArrowDataType}
+use Rattle.arrow_types.specs.TypeData as T
 use Rattle.arrow_flat.specs.Natives.{octets}
 use Rattle.arrow_flat.specs.Pieces.{chunks}
 use Rattle.arrow_flat.specs.Primitives.{MaskHasLength, masked_values as option_masked}
 use Rattle.arrow_flat.specs.Slots.{Slot, bytes}
-use Rattle.arrow_flat.proofs.Masked.{slots_length}
 use Rattle.arrow_flat.proofs.Pieces.{chunk_count, whole_count, whole_multiple}
-use Rattle.arrow_layout.specs.Canon.{canon, bytes_or}
-use Rattle.arrow_layout.specs.Denote.{denote, masked}
-use Rattle.arrow_layout.specs.Forms.{fixed_size_binaries_of, form_of}
-use Rattle.arrow_layout.specs.Layouts.{fixed_size_binaries}
-use Rattle.arrow_meaning.specs.Nodes.{fixed_size_binary_layout}
-use Rattle.arrow_layout.proofs.ByForm.{canon-form}
-use Rattle.arrow_layout.proofs.Lengths.{length-masked}
 use Rattle.arrow_flat.proofs.Lists.{map-map}
-use Rattle.arrow_canon.specs.Steps.{plain_mask, concatenated}
+use Rattle.arrow_layout.specs.Canon.{canon, bytes_or}
+use Rattle.arrow_layout.specs.Denote.{masked}
+use Rattle.arrow_layout.specs.Fits.{Fits}
+use Rattle.arrow_layout.specs.Forms.{Form, fixed_size_binaries_of, form_of}
+use Rattle.arrow_layout.specs.Layouts.{fixed_size_binaries}
+use Rattle.arrow_layout.specs.SlotsOf.{fill}
+use Rattle.arrow_meaning.specs.Nodes.{fixed_size_binary_layout}
+use Rattle.arrow_layout.proofs.ByForm.{canon-form, fill-form}
+use Rattle.arrow_canon.specs.Picks.{pick, picks, IsTypeFor, picked_mask}
+use Rattle.arrow_canon.specs.Runs.{places, AreWithin, canon_of_runs}
+use Rattle.arrow_canon.specs.Steps.{concatenated}
+use Rattle.arrow_canon.specs.declared.run.Run.{Run}
 use Rattle.arrow_canon.proofs.Forms.{sized_form}
-use Rattle.arrow_canon.proofs.MaskedSlots.{slot_of, joined_slots, mask_kept, plain_fits}
+use Rattle.arrow_canon.proofs.MaskedSlots.{slot_of, flat_map-same}
 use Rattle.arrow_canon.proofs.Octets.{octets_joined, octets_zeros, string}
+use Rattle.arrow_canon.proofs.Picked.{picked_slots, mask_picked, mask_fits}
+use Rattle.arrow_canon.proofs.Places.{places_within}
 
 octets_chunks : (k n : ℕ) (bs : List ℕ) → chunks k n (octets bs) ≡ map octets (chunks k n bs)
 octets_chunks k zero bs = refl
 octets_chunks k (suc n) bs =
     ap₂ (λ y ys. y ∷ ys) (take-map (λ b. b % 256) k bs) (ap (chunks k n) (drop-map (λ b. b % 256) k bs) ∙ octets_chunks k n (drop k bs))
-
-string_bytes : (k : ℕ) (x : Option (List ℕ)) → bytes_or (replicate k 0) (slot_of string x) ≡ octets (unwrap_or x (replicate k 0))
-string_bytes k None = octets_zeros k
-string_bytes k (Some x) = refl
-
--- the canonical layout of pieces of one size
-pieces_canonical : (t : TypeData) (k : ℕ) (m : Option Bits) (ps : List (List ℕ)) → form_of t ≡ fixed_size_binaries_of k → MaskHasLength m (length ps)
-    → canon t (masked m (map string ps)) ≡ fixed_size_binaries t (plain_mask m) k (length ps) (octets (concatenated k (option_masked m ps)))
-pieces_canonical t k m ps form fits =
-    let s : List Slot = masked m (map string ps) in
-    let zeros : List ℕ = replicate k 0 in
-    canon-form t (fixed_size_binaries_of k) s form
-    ∙ ap (λ b. fixed_size_binaries t b k (length s) (flat_map (bytes_or zeros) s)) (mask_kept string (λ x. refl) m ps fits)
-    ∙ ap (λ n. fixed_size_binaries t (plain_mask m) k n (flat_map (bytes_or zeros) s)) (length-masked m (map string ps) ∙ length-map ps string)
-    ∙ ap (fixed_size_binaries t (plain_mask m) k (length ps))
-    (joined_slots string (bytes_or zeros) (λ x. octets (unwrap_or x zeros)) (string_bytes k) m ps fits ∙ octets_joined (λ x. unwrap_or x zeros) (option_masked m ps))
 
 -- ---- how many bytes there are
 
@@ -92,46 +82,117 @@ pieces_count a = chunk_count a.size (slot_count a) a.values
 pieces_fit : (a : FixedSizeBinaries) → MaskHasLength a.mask (slot_count a) → MaskHasLength a.mask (length (values_of a))
 pieces_fit a fits = subst (MaskHasLength a.mask) (sym (pieces_count a)) fits
 
-joined_length : (a : FixedSizeBinaries) → MaskHasLength a.mask (slot_count a) → length (concatenated a.size (slots a)) ≡ slot_count a * a.size
-joined_length a fits =
-    let sized = chunks_sized a.size (slot_count a) a.values (div-mul-le_self (length a.values) a.size) in
-    joined_sized a.size (slots a) (masked_sized a.size a.mask (values_of a) sized)
-    ∙ ap (λ n. n * a.size) (slots_length a.mask (values_of a) (pieces_fit a fits) ∙ pieces_count a)
+all_at : {A : Type 0} (P : A → Type 0) (d : A) → P d → (xs : List A) (i : ℕ) → AllByRecursion P xs → P (get_or xs i d)
+all_at P d e [] i h = e
+all_at P d e (x ∷ xs) zero h = h.0
+all_at P d e (x ∷ xs) (suc i) h = all_at P d e xs i h.1
 
-joined_count : (a : FixedSizeBinaries) → 0 < a.size → MaskHasLength a.mask (slot_count a) → length (concatenated a.size (slots a)) / a.size ≡ slot_count a
-joined_count a positive fits = ap (λ n. n / a.size) (joined_length a fits) ∙ whole_count (slot_count a) a.size positive
+all_pick : {A : Type 0} (P : A → Type 0) (d : A) → P d → (xs : List A) (p : Option ℕ) → AllByRecursion P xs → P (pick d xs p)
+all_pick P d e xs None h = e
+all_pick P d e xs (Some i) h = all_at P d e xs i h
 
--- ---- the layout
+pub all_picks : {A : Type 0} (P : A → Type 0) (d : A) → P d → (xs : List A) (ps : List (Option ℕ)) → AllByRecursion P xs → AllByRecursion P (picks d xs ps)
+all_picks P d e xs [] h = tt
+all_picks P d e xs (p ∷ ps) h = (all_pick P d e xs p h, all_picks P d e xs ps h)
 
--- an array of canonical parts is canonical
-pub canonical_sized : (a b : FixedSizeBinaries) → IsSound a
-    → b.dtype ≡ a.dtype → b.size ≡ a.size → b.values ≡ concatenated a.size (slots a) → b.mask ≡ plain_mask a.mask
-    → fixed_size_binary_layout b ≡ canon (seen a.dtype) (denote (fixed_size_binary_layout a))
-canonical_sized a b sound dtype size values mask =
-    let t = seen a.dtype in
-    let k = a.size in
-    let bs = concatenated k (slots a) in
-    ap (λ d. fixed_size_binaries (seen d) b.mask b.size (length b.values / b.size) (octets b.values)) dtype
-    ∙ ap (λ m. fixed_size_binaries t m b.size (length b.values / b.size) (octets b.values)) mask
-    ∙ ap (λ j. fixed_size_binaries t (plain_mask a.mask) j (length b.values / j) (octets b.values)) size
-    ∙ ap (λ vs. fixed_size_binaries t (plain_mask a.mask) k (length vs / k) (octets vs)) values
-    ∙ ap (λ n. fixed_size_binaries t (plain_mask a.mask) k n (octets bs)) (joined_count a sound.positive sound.fits ∙ sym (pieces_count a))
-    ∙ sym
-    (ap (λ ys. canon t (masked a.mask (map bytes ys))) (octets_chunks k (slot_count a) a.values)
-    ∙ ap (λ ys. canon t (masked a.mask ys)) (map-map bytes octets (values_of a))
-    ∙ pieces_canonical t k a.mask (values_of a) (sized_form t k sound.sized) (pieces_fit a sound.fits))
+-- ---- the bytes of picked slots
 
--- ---- the parts fit together
+string_bytes : (k : ℕ) (x : Option (List ℕ)) → bytes_or (replicate k 0) (slot_of string x) ≡ octets (unwrap_or x (replicate k 0))
+string_bytes k None = octets_zeros k
+string_bytes k (Some x) = refl
 
-module _ (a : FixedSizeBinaries) (sound : IsSound a) where
-  pub canonical_size : (t : ArrowDataType) → t ≡ a.dtype → size_or_zero (seen t) ≡ a.size
-  canonical_size t e = ap (λ d. size_or_zero (seen d)) e ∙ ap (λ o. unwrap_or o 0) sound.sized
+joined_octets : (k : ℕ) (ys : List (Option (List ℕ))) → flat_map (bytes_or (replicate k 0)) (map (slot_of string) ys) ≡ octets (concatenated k ys)
+joined_octets k ys =
+    flat_map-map (bytes_or (replicate k 0)) (slot_of string) ys
+    ∙ flat_map-same (λ x. bytes_or (replicate k 0) (slot_of string x)) (λ x. octets (unwrap_or x (replicate k 0))) (string_bytes k) ys
+    ∙ octets_joined (λ x. unwrap_or x (replicate k 0)) ys
 
-  pub canonical_multiple : (vs : List ℕ) → vs ≡ concatenated a.size (slots a) → length vs % a.size ≡ 0
-  canonical_multiple vs e =
-      ap (λ (bs : List ℕ). length bs % a.size) e ∙ ap (λ n. n % a.size) (joined_length a sound.fits) ∙ whole_multiple (slot_count a) a.size sound.positive
+abbrev size_by : Form → Option ℕ
+size_by (fixed_size_binaries_of k) = Some k
+size_by _ = None
 
-  pub canonical_mask_fits : (m : Option Bits) (vs : List ℕ) → m ≡ plain_mask a.mask → vs ≡ concatenated a.size (slots a) → MaskHasLength m (length vs / a.size)
-  canonical_mask_fits m vs e f =
-      let n : length vs / a.size ≡ slot_count a = ap (λ (bs : List ℕ). length bs / a.size) f ∙ joined_count a sound.positive sound.fits in
-      subst (λ k. MaskHasLength k (length vs / a.size)) (sym e) (subst (MaskHasLength (plain_mask a.mask)) (sym n) (plain_fits a.mask (slot_count a) sound.fits))
+size-by : (t : TypeData) → declared_size t ≡ size_by (form_of t)
+size-by (T.extension n t m) = size-by t
+size-by (T.list (T.field n t b m)) = refl
+size-by (T.large_list (T.field n t b m)) = refl
+size-by (T.map (T.field n t b m) o) = refl
+size-by (T.fixed_size_list (T.field n t b m) k) = refl
+size-by _ = refl
+
+module _ (a : FixedSizeBinaries) (sound : IsSound a) (t : TypeData) (of_type : IsTypeFor t (fixed_size_binary_layout a)) where
+  form_for : form_of t ≡ fixed_size_binaries_of a.size
+  form_for = of_type ∙ sized_form (seen a.dtype) a.size sound.sized
+
+  pub size_for : size_or_zero t ≡ a.size
+  size_for = ap (λ o. unwrap_or o 0) (size-by t ∙ ap size_by form_for)
+
+  module _ (rs : List Run) (within : AreWithin (slot_count a) rs) where
+    picked_count : length (picks None (slots a) (places rs)) ≡ length (places rs)
+    picked_count = length-map (places rs) (pick None (slots a))
+
+    pub joined_length : length (concatenated a.size (picks None (slots a) (places rs))) ≡ length (places rs) * a.size
+    joined_length =
+        let sized = masked_sized a.size a.mask (values_of a) (chunks_sized a.size (slot_count a) a.values (div-mul-le_self (length a.values) a.size)) in
+        joined_sized a.size (picks None (slots a) (places rs)) (all_picks (λ x. length (value_or a.size x) ≡ a.size) None (length-replicate a.size 0) (slots a) (places rs) sized)
+        ∙ ap (λ n. n * a.size) picked_count
+
+    pub pieces_within : AreWithin (length (values_of a)) rs
+    pieces_within = subst (λ n. AreWithin n rs) (sym (pieces_count a)) within
+
+    same_canon : canon_of_runs t (fixed_size_binary_layout a) rs ≡ fixed_size_binaries t (picked_mask a.mask (places rs)) a.size (length (places rs)) (octets (concatenated a.size (picks None (slots a) (places rs))))
+    same_canon =
+        let k = a.size in
+        let m = a.mask in
+        let ps = places rs in
+        let ys = picks None (slots a) ps in
+        let s : List Slot = map (slot_of string) ys in
+        ap (λ zs. canon t (picks (fill t) (masked m (map bytes zs)) ps)) (octets_chunks k (slot_count a) a.values)
+        ∙ ap (λ zs. canon t (picks (fill t) (masked m zs) ps)) (map-map bytes octets (values_of a))
+        ∙ ap (canon t) (picked_slots string t m (values_of a) ps (fill-form t (fixed_size_binaries_of k) form_for) (pieces_fit a sound.fits))
+        ∙ canon-form t (fixed_size_binaries_of k) s form_for
+        ∙ ap (λ b. fixed_size_binaries t b k (length s) (flat_map (bytes_or (replicate k 0)) s))
+        (mask_picked string (λ x. refl) m (values_of a) ps (pieces_fit a sound.fits) (places_within (length (values_of a)) rs pieces_within))
+        ∙ ap (λ n. fixed_size_binaries t (picked_mask m ps) k n (flat_map (bytes_or (replicate k 0)) s)) (length-map ys (slot_of string) ∙ picked_count)
+        ∙ ap (fixed_size_binaries t (picked_mask m ps) k (length ps)) (joined_octets k ys)
+
+    bytes_count : length (octets (concatenated a.size (picks None (slots a) (places rs)))) ≡ length (places rs) * a.size
+    bytes_count = length-map (concatenated a.size (picks None (slots a) (places rs))) (λ b. b % 256) ∙ joined_length
+
+    many : length (places rs) ≤ length (places rs) * a.size
+    many = le-mul (length (places rs)) a.size sound.positive
+      where
+        le-mul : (n k : ℕ) → 0 < k → n ≤ n * k
+        le-mul n zero h = absurd (omega (arith, h))
+        le-mul n (suc k) h = let e : n * suc k ≡ n + n * k = omega arith in omega (arith, e)
+
+    pub fits_if : length (places rs) * a.size < 2 ^ 64 → Fits (canon_of_runs t (fixed_size_binary_layout a) rs)
+    fits_if h = subst Fits (sym same_canon) (omega (arith, h, many), omega (arith, h, bytes_count))
+
+    pub few_if : Fits (canon_of_runs t (fixed_size_binary_layout a) rs) → length (places rs) * a.size < 2 ^ 64
+    few_if f = let q = subst Fits same_canon f in omega (arith, q.1, bytes_count)
+
+    joined_count : length (concatenated a.size (picks None (slots a) (places rs))) / a.size ≡ length (places rs)
+    joined_count = ap (λ n. n / a.size) joined_length ∙ whole_count (length (places rs)) a.size sound.positive
+
+    -- an array of canonical parts is canonical
+    pub canonical_sized : (b : FixedSizeBinaries) → seen b.dtype ≡ t → b.size ≡ a.size → b.values ≡ concatenated a.size (picks None (slots a) (places rs)) → b.mask ≡ picked_mask a.mask (places rs)
+        → fixed_size_binary_layout b ≡ canon_of_runs t (fixed_size_binary_layout a) rs
+    canonical_sized b dtype size values mask =
+        let bs = concatenated a.size (picks None (slots a) (places rs)) in
+        let m = picked_mask a.mask (places rs) in
+        ap (λ d. fixed_size_binaries d b.mask b.size (length b.values / b.size) (octets b.values)) dtype
+        ∙ ap (λ m. fixed_size_binaries t m b.size (length b.values / b.size) (octets b.values)) mask
+        ∙ ap (λ j. fixed_size_binaries t m j (length b.values / j) (octets b.values)) size
+        ∙ ap (λ vs. fixed_size_binaries t m a.size (length vs / a.size) (octets vs)) values
+        ∙ ap (λ n. fixed_size_binaries t m a.size n (octets bs)) joined_count
+        ∙ sym same_canon
+
+    -- the parts fit together
+    pub multiple_of_parts : (vs : List ℕ) → vs ≡ concatenated a.size (picks None (slots a) (places rs)) → length vs % a.size ≡ 0
+    multiple_of_parts vs e =
+        ap (λ (bs : List ℕ). length bs % a.size) e ∙ ap (λ n. n % a.size) joined_length ∙ whole_multiple (length (places rs)) a.size sound.positive
+
+    pub mask_of_parts : (m : Option Bits) (vs : List ℕ) → m ≡ picked_mask a.mask (places rs) → vs ≡ concatenated a.size (picks None (slots a) (places rs)) → MaskHasLength m (length vs / a.size)
+    mask_of_parts m vs e f =
+        let n : length vs / a.size ≡ length (places rs) = ap (λ (bs : List ℕ). length bs / a.size) f ∙ joined_count in
+        subst (λ k. MaskHasLength k (length vs / a.size)) (sym e) (mask_fits a.mask (places rs) (length vs / a.size) n)

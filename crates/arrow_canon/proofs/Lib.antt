@@ -1,9 +1,16 @@
 pub mod Binaries
 pub mod Booleans
+pub mod Counts
 pub mod FixedSizes
 pub mod Forms
+pub mod JoinedRuns
+pub mod Mapped
 pub mod MaskedSlots
+pub mod Masks
 pub mod Octets
+pub mod Picked
+pub mod Places
 pub mod Primitives
 pub mod Strings
 pub mod Views
+pub mod Whole

@@ -1,2 +1,4 @@
 pub mod Canonical
+pub mod Picks
+pub mod Runs
 pub mod Steps

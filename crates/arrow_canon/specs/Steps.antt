@@ -1,11 +1,5 @@
--- The parts of canonical arrays, by the mask and the optional values of an array.
-use Rattle.std.specs.Prelude.{ℕ, List, [], map, length, flat_map, replicate, unwrap_or, Option, Some, None}
-use Rattle.arrow_buffers.specs.Bits.{Bits, plain, needed_mask}
-
--- The mask with no bits before its own; none where no bit is unset.
-abbrev pub plain_mask : Option Bits → Option Bits
-plain_mask None = None
-plain_mask (Some b) = needed_mask (plain b.bits)
+-- The parts of canonical arrays, by the optional values of an array.
+use Rattle.std.specs.Prelude.{ℕ, List, [], map, length, flat_map, replicate, unwrap_or, Option}
 
 -- The values, and another where there is none.
 abbrev pub values_or : {T : Type 0} → T → List (Option T) → List T

@@ -1,4 +1,4 @@
-//! The canonical array of an array's slots, for each layout without children.
+//! The canonical array of slots that runs pick out of an array, for each layout without children.
 #![tactic(auto)]
 
 mod binary;
@@ -8,6 +8,7 @@ mod joined;
 mod mask;
 mod normal;
 mod primitive;
+mod run;
 mod view;
 
 pub use binary::canonical_binary;
@@ -15,4 +16,5 @@ pub use boolean::canonical_boolean;
 pub use fixed_size_binary::canonical_fixed_size_binary;
 pub use normal::normalized;
 pub use primitive::canonical_primitive;
+pub use run::{Run, count_slots};
 pub use view::canonical_view;

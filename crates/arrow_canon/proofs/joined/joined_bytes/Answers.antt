@@ -1,19 +1,10 @@
-use Rattle.std.proofs.Common.{◌≡◌, length, Some, ap, arith, ◌∙◌}
-use Rattle.std.specs.Option.{option_copied}
 use Rattle.arrow_flat.specs.Primitives.{masked_values}
-use Rattle.arrow_canon.specs.Steps.{concatenated}
-use Rattle.arrow_canon.proofs.Strings.{joined_next, all_slots}
+use Rattle.arrow_canon.specs.declared.run.Run.TheVariants.{Slots}
+use Rattle.arrow_canon.proofs.JoinedRuns.{bytes_run}
 use Rattle.arrow_canon.proofs.joined.joined_bytes.Goals as goal
 
-pub loop-i-preserved : goal.loop-i-preserved
-loop-i-preserved g c =
+pub loop-run-preserved : goal.loop-run-preserved
+loop-run-preserved g c =
     let a = c.args.array in
-    joined_next c.args.zeros (masked_values (g.A.ArrayAccessor.mask a) (g.A.ArrayAccessor.values a)) c.loop-i.i (option_copied c.get.result) c.loop-i.bytes.items c.push_slot.new.bytes.items
-    (c.get.ensures ∙ ap (λ f. Some (f c.get.result)) c.requires) c.loop-i.invariant c.in_ok-push_slot.ensures
-
-pub returns : goal.returns
-returns g c =
-    let a = c.args.array in
-    c.loop-i.invariant
-    ∙ ap (concatenated c.args.zeros)
-    (all_slots (g.A.ArrayAccessor.mask a) (g.A.ArrayAccessor.values a) c.len-i-end.result c.loop-i.i c.len-i-end.ensures.fits c.len-i-end.ensures.count (omega (arith, c.loop-i-test.false)))
+    bytes_run (masked_values (g.A.ArrayAccessor.mask a) (g.A.ArrayAccessor.values a)) c.args.zeros c.args.runs.now c.loop-run.run-index (Slots 0 0) c.loop-run.bytes.items c.push_run.new.bytes.items
+    c.loop-run-test.true c.loop-run.invariant c.in_ok-push_run.ensures

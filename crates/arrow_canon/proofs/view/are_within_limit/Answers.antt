@@ -4,13 +4,14 @@ use Rattle.arrow_canon.proofs.view.are_within_limit.Goals as goal
 
 pub returns-then-length-total : goal.returns-then-length-total
 returns-then-length-total g c =
-    too_many c.args.array.now c.loop-i.i c.slot_bytes-length.result.now c.loop-i.total c.slot_bytes-length.ensures c.loop-i.invariant.0 c.loop-i.invariant.1 c.if-length-total.true
+    too_many (g.A.BinaryValues.values c.args.values.now) c.loop-i.i c.value_at-length.result.now c.loop-i.total c.value_at-length.ensures c.loop-i.invariant.0 c.loop-i.invariant.1 c.if-length-total.true
 
 pub loop-i-preserved : goal.loop-i-preserved
 loop-i-preserved g c = (
-  more_counted c.args.array.now c.loop-i.i c.slot_bytes-length.result.now c.loop-i.total c.slot_bytes-length.ensures c.loop-i.invariant.0,
+  more_counted (g.A.BinaryValues.values c.args.values.now) c.loop-i.i c.value_at-length.result.now c.loop-i.total c.value_at-length.ensures c.loop-i.invariant.0,
   omega (arith, c.loop-i.invariant.1, c.if-length-total.false),
 )
 
 pub returns : goal.returns
-returns g c = not_too_many c.args.array.now c.loop-i.i c.len-i-end.result c.loop-i.total c.invariant.ensures.array.fits c.len-i-end.ensures c.loop-i-test.false c.loop-i.invariant.0 c.loop-i.invariant.1
+returns g c =
+    not_too_many (g.A.BinaryValues.values c.args.values.now) c.loop-i.i c.value_count-i-end.result c.loop-i.total c.value_count-i-end.ensures c.loop-i-test.false c.loop-i.invariant.0 c.loop-i.invariant.1

@@ -1,0 +1,13 @@
+use Rattle.std.proofs.Common.{Some, ap, arith, ◌∙◌}
+use Rattle.std.specs.Option.{option_copied}
+use Rattle.arrow_flat.specs.Primitives.{masked_values}
+use Rattle.arrow_canon.proofs.JoinedRuns.{lengths_slot}
+use Rattle.arrow_canon.proofs.joined.push_lengths.Goals as goal
+
+pub loop-i-preserved : goal.loop-i-preserved
+loop-i-preserved g c =
+    let a = c.args.array in (
+      lengths_slot (masked_values (g.A.ArrayAccessor.mask a) (g.A.ArrayAccessor.values a)) c.args.counts.now.items c.args.start c.loop-i.i (option_copied c.get.result) c.length_of.result
+          c.loop-i.counts.items c.push.new.self.items c.loop-i.invariant.1 (c.get.ensures ∙ ap (λ f. Some (f c.get.result)) c.requires.seen) c.length_of.ensures c.loop-i.invariant.0 c.in_ok-push.ensures.items,
+      omega (arith, c.loop-i.invariant.1),
+    )

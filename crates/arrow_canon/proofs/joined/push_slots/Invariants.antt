@@ -1,0 +1,10 @@
+use Rattle.std.proofs.Common.{◌≡◌, ◌++◌, ◌-◌, ◌≤◌, None}
+use Rattle.arrow_flat.specs.Primitives.{masked_values}
+use Rattle.arrow_canon.specs.Picks.{picks, span}
+use Rattle.arrow_canon.specs.Steps.{concatenated}
+use Rattle.arrow_canon.proofs.joined.push_slots.Given as goal
+
+abbrev pub invariant-loop-i : goal.invariant-loop-i
+invariant-loop-i g l =
+    let a = g.A.ArrayAccessor in
+    (l.bytes.items ≡ l.initial.bytes.items ++ concatenated l.fn.zeros (picks None (masked_values (a.mask l.fn.array) (a.values l.fn.array)) (span l.fn.start (l.i - l.fn.start)))) × (l.fn.start ≤ l.i)
