@@ -1,5 +1,6 @@
-//! The columns under the paths of polars-arrow: `arrow::array`, `arrow::bitmap`, `arrow::buffer`, `arrow::datatypes` and
-//! `arrow::offset`, the canonical form in `arrow::canon`, and columns as JSON in `arrow::json`.
+//! The columns under the paths of polars-arrow: `arrow::array`, `arrow::bitmap`, `arrow::buffer`,
+//! `arrow::datatypes` and `arrow::offset`, the canonical form in `arrow::canon`, and columns as
+//! JSON in `arrow::json`.
 #![tactic(auto)]
 
 pub use arrow_types::{GatherError, GrowError, MakeError, Mem, PolarsError, PolarsResult, Reason};
@@ -8,6 +9,10 @@ pub use arrow_types::{GatherError, GrowError, MakeError, Mem, PolarsError, Polar
 pub mod array {
     pub use arrow_bytes::{
         BinaryArray, FixedSizeBinaryArray, GenericBinaryArray, OffsetArray, Utf8Array,
+    };
+    pub use arrow_choice::{
+        DictValue, DictionaryArray, DictionaryIterTyped, DictionaryKey, DictionaryValuesIterTyped,
+        KeysIter, KeysValuesIter, UnionArray, UnionIter,
     };
     pub use arrow_flat::{
         ArrayAccessor, ArrayIter, ArrayValuesIter, BooleanArray, BooleanIter, ByteString, DaysMs,
@@ -18,7 +23,12 @@ pub mod array {
     };
     pub use arrow_meaning::{
         ArrayRef, FlatArray, KeyNode, MaskedArray, Node, NodeKey, NodeNative, NodeOffset, NodeView,
-        PrimitiveNode, TypedArray,
+        PrimitiveNode, TypedArray, new_empty_array, new_null_array,
+    };
+    pub use arrow_nested::{
+        FixedSizeListArray, FixedSizeListIter, FixedSizeListValuesIter, ListArray, ListIter,
+        ListValuesIter, MapArray, MapIter, MapValuesIter, MutableNullArray, NonNullValuesIter,
+        NullArray, StructArray,
     };
     pub use arrow_push::{
         MaskedBuilder, MutableBooleanArray, MutablePrimitiveArray, NullableBuilder, TryExtend,
@@ -28,6 +38,7 @@ pub mod array {
         ExtendFromLengths, MutableBinaryArray, MutableBinaryValuesArray, MutableBinaryViewArray,
         MutableFixedSizeBinaryArray, MutableUtf8Array, MutableUtf8ValuesArray, NewSized,
     };
+    pub use arrow_scalar::{same_layout, slot_bytes};
     pub use arrow_views::{
         BinaryValues, BinaryViewArray, BinaryViewArrayGeneric, BinaryViewIter,
         BinaryViewValuesIter, Utf8ViewArray, Utf8ViewIter, Utf8ViewValuesIter, View, ViewBytes,
@@ -63,8 +74,8 @@ pub mod offset {
 /// The canonical form of columns.
 pub mod canon {
     pub use arrow_canon::{
-        canonical_binary, canonical_boolean, canonical_fixed_size_binary, canonical_primitive,
-        canonical_view, normalized,
+        Run, canonical_binary, canonical_boolean, canonical_fixed_size_binary, canonical_primitive,
+        canonical_view, count_slots, normalized,
     };
 }
 
