@@ -1,5 +1,5 @@
 -- Parts of views that are refused are not well formed.
-use Rattle.std.proofs.Common.{◌≡◌, ℕ, zero, suc, ◌<◌, List, [], ◌∷◌, length, map, get_or, ap, sym, refl, subst, arith, Option, Some, None}
+use Rattle.std.proofs.Common.{◌≡◌, ℕ, List, [], ◌∷◌, length, ap, refl, subst, Option, Some, None}
 use Rattle.std.specs.Prelude.{Bool, true, false}
 use Rattle.std.specs.List.{AllByRecursion}
 use Rattle.arrow_buffers.specs.Bits.{Bits}
@@ -18,12 +18,6 @@ use Rattle.arrow_layout.specs.Layouts.{views}
 use Rattle.arrow_layout.specs.SlotsOf.{IsTextIf}
 use Rattle.arrow_layout.specs.WellFormed.{MaskFits, WellFormed}
 use Rattle.arrow_meaning.proofs.FlatLayouts.{view_form}
-
--- one that isn't spoils all
-pub some_bad : {A B : Type 0} (P : B → Type 0) (f : A → B) (xs : List A) (i : ℕ) (x : A) → i < length xs → x ≡ get_or xs i x → (P (f x) → ⊥) → AllByRecursion P (map f xs) → ⊥
-some_bad P f [] i x l e h k = omega (arith, l)
-some_bad P f (y ∷ xs) zero x l e h k = h (subst (λ z. P (f z)) (sym e) k.0)
-some_bad P f (y ∷ xs) (suc i) x l e h k = some_bad P f xs i x (omega (arith, l)) e h k.1
 
 covers : (m : Option Bits) (n : ℕ) → MaskFits m n → MaskCovers m n
 covers None n h = tt

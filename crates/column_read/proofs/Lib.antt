@@ -9,3 +9,4 @@ pub mod TextForms
 pub mod Threes
 pub mod Worked
 pub mod Prefixes
+pub mod InlineHex

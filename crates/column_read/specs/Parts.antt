@@ -11,10 +11,9 @@ use Rattle.arrow_types.specs.declared.datatype.PrimitiveType.{PrimitiveType}
 use Rattle.arrow_types.specs.declared.datatype.PrimitiveType.TheVariants as primitive
 use Rattle.arrow_bytes.specs.FixedSizeBinaries.{declared_size}
 use Rattle.arrow_flat.specs.Natives.{signed, unsigned, days_ms, month_day_nano, octets, IsNative}
-use Rattle.arrow_flat.specs.Views.{View, inline_view, long}
 use Rattle.arrow_layout.specs.Layouts.{Layout, booleans, primitives, binaries, fixed_size_binaries, views}
 use Rattle.column_grammar.specs.Reads as read
-use Rattle.column_grammar.specs.Reads.{prefix_in, booleans_in, primitives_in, binaries_in, fixed_size_binaries_in, views_in}
+use Rattle.column_grammar.specs.Reads.{booleans_in, primitives_in, binaries_in, fixed_size_binaries_in, views_in}
 use Rattle.column_read.specs.declared.column.Column.{Column}
 use Rattle.column_read.specs.declared.column.ColumnData.{ColumnData}
 use Rattle.column_read.specs.declared.column.ColumnData.TheVariants as column
@@ -25,9 +24,6 @@ use Rattle.column_read.specs.declared.column.PrimitiveParts.{PrimitiveParts}
 use Rattle.column_read.specs.declared.column.BinaryParts.{BinaryParts}
 use Rattle.column_read.specs.declared.column.FixedSizeBinaryParts.{FixedSizeBinaryParts}
 use Rattle.column_read.specs.declared.column.ViewParts.{ViewParts}
-use Rattle.column_read.specs.declared.column.LongView.{LongView}
-use Rattle.column_read.specs.declared.column.RawView.{RawView}
-use Rattle.column_read.specs.declared.column.RawView.TheVariants as raw
 
 -- ---- the layout of the parts, given the type
 
@@ -43,20 +39,12 @@ binaries_layout number t p = binaries t p.validity (map number p.offsets.items) 
 abbrev pub fixed_size_binaries_layout : TypeData → FixedSizeBinaryParts → Layout
 fixed_size_binaries_layout t p = fixed_size_binaries t p.validity p.size (length p.values / p.size) (octets p.values)
 
-abbrev pub long_view_of : List (List ℕ) → LongView → View
-long_view_of buffers v = long v.length (prefix_in buffers v.length v.buffer v.offset) v.buffer v.offset
-
 -- The first four of n bytes from o on, zeros where they aren't there.
 abbrev pub four_of : List ℕ → ℕ → ℕ → List ℕ
 four_of bs n o = if nat_le (o + n) (length bs) then take 4 (drop o bs) else replicate 4 0
 
--- The view of a value that stands in these buffers.
-abbrev pub raw_view_of : List (List ℕ) → RawView → View
-raw_view_of buffers (raw.Inline bs) = inline_view (octets bs.items)
-raw_view_of buffers (raw.Long v) = long_view_of buffers v
-
 abbrev pub views_layout : TypeData → ViewParts → Layout
-views_layout t p = views t p.validity (map (raw_view_of (map octets p.buffers.items)) p.views.items) (map octets p.buffers.items)
+views_layout t p = views t p.validity p.views.items (map octets p.buffers.items)
 
 abbrev pub numbers_layout : TypeData → PrimitiveData → Layout
 numbers_layout t (numbers.Int8 p) = primitives_layout (signed w8) t p

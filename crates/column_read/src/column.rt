@@ -17,6 +17,7 @@ use arrow_buffers::{Bitmap, Buffer};
 use arrow_flat::{DaysMs, MonthDayNano};
 use arrow_meaning::ArrayRef;
 use arrow_types::ArrowDataType;
+use arrow_views::View;
 use serde_json::Value;
 use std::alloc::Global;
 use type_json::JsonError;
@@ -117,27 +118,12 @@ pub struct FixedSizeBinaryParts {
     pub validity: Option<Bitmap>,
 }
 
-/// Binary values or strings under a mask, short ones in place and long ones in buffers.
+/// Binary values or strings under a mask, by views: short ones in place and long ones in buffers.
+///
+/// The prefix of a view is computed: zeros where its range isn't in the buffers.
 #[derive(Drop)]
 pub struct ViewParts {
-    pub views: Vec<RawView>,
+    pub views: Vec<View>,
     pub buffers: Vec<Buffer<u8>>,
     pub validity: Option<Bitmap>,
-}
-
-/// Where a binary value or a string stands.
-#[derive(Drop)]
-pub enum RawView {
-    /// In place: at most twelve bytes.
-    Inline(Vec<u8>),
-    /// In a buffer: more than twelve bytes from an offset on.
-    Long(LongView),
-}
-
-/// The range of a buffer that a value is.
-#[derive(Clone, Copy)]
-pub struct LongView {
-    pub length: u32,
-    pub buffer: u32,
-    pub offset: u32,
 }

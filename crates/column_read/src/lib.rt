@@ -14,8 +14,8 @@ mod value;
 mod view;
 
 pub use column::{
-    BinaryParts, BooleanParts, Column, ColumnData, FixedSizeBinaryParts, LongView, PrimitiveData,
-    PrimitiveParts, RawView, ViewParts,
+    BinaryParts, BooleanParts, Column, ColumnData, FixedSizeBinaryParts, PrimitiveData,
+    PrimitiveParts, ViewParts,
 };
 pub use error::LayoutError;
 pub use native::{ReadNative, ReadOffset};

@@ -1,26 +1,25 @@
 //! Columns of views: their parts from JSON values, and their arrays.
-ghost use Rattle.std.specs.Prelude.{◌≡◌, ◌<◌, ◌≤◌, ℕ, List, map, length as count, option_map, option_and_then, Some, MatchOption};
-ghost use Rattle.std.specs.List.{AllByRecursion};
+ghost use Rattle.std.specs.Prelude.{◌≡◌, ◌/◌, ◌<◌, ◌≤◌, map, length as count, option_and_then, Some};
 ghost use Rattle.serde_json.specs.View.{view};
+ghost use Rattle.hex.specs.Hex.{decode_of};
 ghost use Rattle.arrow_types.specs.Seen.{seen};
 ghost use Rattle.arrow_types.specs.TypeData.{TypeData};
 ghost use Rattle.arrow_types.specs.Types.{physical_of};
 ghost use Rattle.arrow_flat.specs.Natives.{octets};
-ghost use Rattle.arrow_flat.specs.Views.{IsView, inline_view};
 ghost use Rattle.arrow_views.specs.ViewArrays.{physical_view};
 ghost use Rattle.arrow_meaning.specs.Nodes.{view_layout};
 ghost use Rattle.arrow_layout.specs.WellFormed.{WellFormed};
 ghost use Rattle.type_json.specs.Reads.{Reads, Makes};
 ghost use Rattle.type_json.specs.Values.{traverse};
 ghost use Rattle.type_json.specs.declared.error.JsonError.TheVariants.{BadValue};
-ghost use Rattle.column_grammar.specs.Values.{bytes_in, list_in};
+ghost use Rattle.column_grammar.specs.Values.{bytes_in, decoded, list_in};
 ghost use Rattle.column_grammar.specs.Reads.{prefix_in, inline_of, long_in, view_in, views_in};
-ghost use Rattle.column_read.specs.Parts.{four_of, long_view_of, raw_view_of, views_layout};
+ghost use Rattle.column_read.specs.Parts.{four_of, views_layout};
 ghost use Rattle.column_read.specs.declared.error.LayoutError.TheVariants.{BadLayout};
 
 use crate::native::uint32_in;
 use crate::value::{bytes_in, items, mask_in, three_members, triple_in};
-use crate::{LayoutError, LongView, RawView, ViewParts};
+use crate::{LayoutError, ViewParts};
 use arrow_buffers::Buffer;
 use arrow_types::{ArrowDataType, PolarsError};
 use arrow_views::{BinaryViewArrayGeneric, View, ViewType};
@@ -28,33 +27,81 @@ use serde_json::Value;
 use std::alloc::Global;
 use type_json::JsonError;
 
-/// A value of at most twelve bytes.
-fn inline_in(alloc: Global, value: &Value) -> Result<RawView, JsonError>
-    ensures { (buffers : List (List ℕ)) → Reads BadValue (raw_view_of buffers)
-        (option_and_then inline_of (bytes_in (view value.now))) result }
+/// The view of the bytes of a text, two hexadecimal digits a byte, with room for them.
+fn decoded_view(text: &[u8], bytes: &mut [u8]) -> Option<View>
+    requires half { count bytes.old ≡ count text.now / 2 }
+    requires few { count bytes.old ≤ 12 }
+    ensures { result ≡ option_and_then inline_of (decoded (decode_of text.now)) }
 {
-    let bytes = bytes_in(alloc, value)?;
-    if bytes.len() > 12 {
-        return Err(JsonError::BadValue);
-    }
-    Ok(RawView::Inline(bytes))
+    hex::decode_to_slice(text, bytes).ok()?;
+    Some(View::new_inline(bytes))
 }
 
-/// A value of more than twelve bytes: its length, the number of its buffer and its offset.
-fn long_in(value: &Value) -> Option<LongView>
-    ensures { (buffers : List (List ℕ)) → option_map (long_view_of buffers) result
-        ≡ long_in buffers (view value.now) }
+/// The view of a text of at most twelve bytes.
+fn inline_of(text: &[u8]) -> Option<View>
+    ensures { result ≡ option_and_then inline_of (decoded (decode_of text.now)) }
+{
+    let mut bytes = [0; 12];
+    let size = text.len() / 2;
+    if size > 12 {
+        return None;
+    }
+    decoded_view(text, &mut bytes[..size])
+}
+
+/// The view of a value of at most twelve bytes.
+#[tactic(auto, unfolding(column_grammar::specs::Values::bytes_in))]
+fn inline_in(value: &Value) -> Option<View>
+    ensures { result ≡ option_and_then inline_of (bytes_in (view value.now)) }
+{
+    inline_of(value.as_str()?.as_bytes())
+}
+
+/// Four bytes as an array.
+fn four(bytes: &[u8]) -> [u8; 4]
+    requires { count bytes.now ≡ 4 }
+    ensures { result ≡ octets bytes.now }
+{
+    match <[u8; 4]>::try_from(bytes) {
+        Ok(four) => four,
+        Err(_) => unreachable!(),
+    }
+}
+
+/// The first four of `length` bytes from `offset` on, zeros where they aren't there.
+fn first_four(bytes: &[u8], length: usize, offset: usize) -> [u8; 4]
+    requires { 12 < length }
+    ensures { result ≡ four_of (octets bytes.now) length offset }
+{
+    if length > bytes.len() || offset > bytes.len() - length {
+        return [0; 4];
+    }
+    four(&bytes[offset..offset + 4])
+}
+
+/// The first four bytes of a range of a buffer, zeros where the range isn't there.
+fn prefix_of(buffers: &[Buffer<u8>], length: u32, buffer: u32, offset: u32) -> [u8; 4]
+    requires { 12 < length }
+    ensures { result ≡ prefix_in (map octets buffers.now) length buffer offset }
+{
+    match buffers.get(buffer as usize) {
+        Some(bytes) => first_four(bytes.as_slice(), length as usize, offset as usize),
+        None => [0; 4],
+    }
+}
+
+/// The view of a value of more than twelve bytes: of its length, the number of its buffer and its
+/// offset.
+fn long_in(buffers: &[Buffer<u8>], value: &Value) -> Option<View>
+    ensures { result ≡ long_in (map octets buffers.now) (view value.now) }
 {
     let (length, buffer, offset) = triple_in(value)?;
     let length = uint32_in(length)?;
     let buffer = uint32_in(buffer)?;
     let offset = uint32_in(offset)?;
     if length > 12 {
-        Some(LongView {
-            length,
-            buffer,
-            offset,
-        })
+        let prefix = prefix_of(buffers, length, buffer, offset);
+        Some(View::new_long(length, prefix, buffer, offset))
     } else {
         None
     }
@@ -63,25 +110,27 @@ fn long_in(value: &Value) -> Option<LongView>
 /// The view that a value is: a text of at most twelve bytes, or a list of a length, a buffer and an
 /// offset.
 #[tactic(auto, unfolding(column_grammar::specs::Reads::view_in))]
-fn view_in(alloc: Global, value: &Value) -> Result<RawView, JsonError>
-    ensures { (buffers : List (List ℕ)) → Reads BadValue (raw_view_of buffers)
-        (view_in buffers (view value.now)) result }
+fn view_in(buffers: &[Buffer<u8>], value: &Value) -> Option<View>
+    ensures { result ≡ view_in (map octets buffers.now) (view value.now) }
 {
     if value.is_string() {
-        return inline_in(alloc, value);
+        inline_in(value)
+    } else {
+        long_in(buffers, value)
     }
-    Ok(RawView::Long(long_in(value).ok_or(JsonError::BadValue)?))
 }
 
 /// The views of a list of values.
-fn view_list(alloc: Global, list: &[Value]) -> Result<Vec<RawView>, JsonError>
-    ensures { (buffers : List (List ℕ))
-        → Reads BadValue (λ v. map (raw_view_of buffers) v.items)
-        (traverse (view_in buffers) (map view list.now)) result }
+fn view_list(alloc: Global, buffers: &[Buffer<u8>], list: &[Value]) -> Result<Vec<View>, JsonError>
+    ensures { Reads BadValue (λ v. v.items)
+        (traverse (view_in (map octets buffers.now)) (map view list.now)) result }
 {
-    let mut views = Vec::new(alloc);
+    let mut views = Vec::with_capacity(alloc, list.len())?;
     for item in list {
-        views.push(view_in(alloc, item)?)?;
+        let Some(view) = view_in(buffers, item) else {
+            return Err(JsonError::BadValue);
+        };
+        views.push(view)?;
     }
     Ok(views)
 }
@@ -99,15 +148,14 @@ fn buffer_list(alloc: Global, list: &[Value]) -> Result<Vec<Buffer<u8>>, JsonErr
     Ok(buffers)
 }
 
-/// The views that a value is: a list of them.
+/// The views that a value is: a list of them, their values in place or in these buffers.
 #[tactic(auto, unfolding(column_grammar::specs::Values::list_in))]
-fn raw_views_in(alloc: Global, value: &Value) -> Result<Vec<RawView>, JsonError>
-    ensures { (buffers : List (List ℕ))
-        → Reads BadValue (λ v. map (raw_view_of buffers) v.items)
-        (list_in (view_in buffers) (view value.now)) result }
+fn view_items(alloc: Global, buffers: &[Buffer<u8>], value: &Value) -> Result<Vec<View>, JsonError>
+    ensures { Reads BadValue (λ v. v.items)
+        (list_in (view_in (map octets buffers.now)) (view value.now)) result }
 {
     match items(value) {
-        Some(list) => view_list(alloc, list),
+        Some(list) => view_list(alloc, buffers, list),
         None => Err(JsonError::BadValue),
     }
 }
@@ -134,105 +182,12 @@ pub(crate) fn views_in(alloc: Global, value: &Value) -> Result<ViewParts, JsonEr
     let (buffers, mask, views) = members.ok_or(JsonError::BadValue)?;
     let buffers = buffers_in(alloc, buffers)?;
     let validity = mask_in(alloc, mask)?;
-    let views = raw_views_in(alloc, views)?;
+    let views = view_items(alloc, &buffers, views)?;
     Ok(ViewParts {
         views,
         buffers,
         validity,
     })
-}
-
-/// Four bytes as an array.
-fn four(bytes: &[u8]) -> [u8; 4]
-    requires { count bytes.now ≡ 4 }
-    ensures { result ≡ octets bytes.now }
-{
-    match <[u8; 4]>::try_from(bytes) {
-        Ok(four) => four,
-        Err(_) => unreachable!(),
-    }
-}
-
-/// The first four of `length` bytes from `offset` on, zeros where they aren't there.
-fn first_four(bytes: &[u8], length: usize, offset: usize) -> [u8; 4]
-    requires { 12 < length }
-    ensures { result ≡ four_of (octets bytes.now) length offset }
-{
-    if length > bytes.len() || offset > bytes.len() - length {
-        return [0; 4];
-    }
-    four(&bytes[offset..offset + 4])
-}
-
-/// The first four bytes of a range of a buffer, zeros where the range isn't there.
-fn prefix_of(buffers: &[Buffer<u8>], view: LongView) -> [u8; 4]
-    requires { 12 < view.length }
-    ensures { result ≡ prefix_in (map octets buffers.now) view.length view.buffer view.offset }
-{
-    match buffers.get(view.buffer as usize) {
-        Some(buffer) => first_four(
-            buffer.as_slice(),
-            view.length as usize,
-            view.offset as usize,
-        ),
-        None => [0; 4],
-    }
-}
-
-/// The view of a value of at most twelve bytes; None for a longer one.
-fn inline_view(bytes: &[u8]) -> Option<View>
-    ensures { MatchOption result (count bytes.now ≤ 12 → ⊥)
-        (λ v. v ≡ inline_view (octets bytes.now)) }
-{
-    if bytes.len() > 12 {
-        return None;
-    }
-    Some(View::new_inline(bytes))
-}
-
-/// The view of a longer value that stands in these buffers; None for a short one.
-fn long_view(buffers: &[Buffer<u8>], view: LongView) -> Option<View>
-    ensures { MatchOption result (12 < view.length → ⊥)
-        (λ v. v ≡ long_view_of (map octets buffers.now) view) }
-{
-    if view.length <= 12 {
-        return None;
-    }
-    let prefix = prefix_of(buffers, view);
-    Some(View::new_long(view.length, prefix, view.buffer, view.offset))
-}
-
-/// The view of a value that stands in these buffers; None where no view stands for it.
-fn view_of(buffers: &[Buffer<u8>], raw: &RawView) -> Option<View>
-    ensures { let kept = map octets buffers.now in
-        MatchOption result (IsView kept (raw_view_of kept raw.now) → ⊥)
-        (λ v. v ≡ raw_view_of kept raw.now) }
-{
-    match raw {
-        RawView::Inline(bytes) => inline_view(bytes.as_slice()),
-        RawView::Long(view) => long_view(buffers, *view),
-    }
-}
-
-/// The views of values that stand in these buffers. BadLayout only where no view stands for one of
-/// them.
-fn views_of(
-    alloc: Global,
-    buffers: &[Buffer<u8>],
-    raws: &[RawView],
-) -> Result<Vec<View>, LayoutError>
-    ensures { let kept = map octets buffers.now in
-        Makes BadLayout (λ v. v.items) (map (raw_view_of kept) raws.now)
-        (AllByRecursion (IsView kept) (map (raw_view_of kept) raws.now)) result }
-{
-    let mut views = Vec::with_capacity(alloc, raws.len())?;
-    for raw in raws {
-        let Some(view) = view_of(buffers, raw) else {
-            return Err(LayoutError::BadLayout);
-        };
-        views.push(view)?;
-    }
-    Ok(views)
 }
 
 /// The array of views of these parts. BadLayout exactly where they aren't well formed.
@@ -245,8 +200,7 @@ pub(crate) fn view_array<T: ViewType>(
     ensures { Makes BadLayout view_layout (views_layout (seen dtype) parts)
         (WellFormed (views_layout (seen dtype) parts)) result }
 {
-    let views = views_of(alloc, parts.buffers.as_slice(), parts.views.as_slice())?;
-    let views = Buffer::from_vec(alloc, views)?;
+    let views = Buffer::from_vec(alloc, parts.views)?;
     match BinaryViewArrayGeneric::try_new_in(alloc, dtype, views, parts.buffers, parts.validity) {
         Ok(array) => Ok(array),
         Err(PolarsError::ComputeError(_)) => Err(LayoutError::BadLayout),
