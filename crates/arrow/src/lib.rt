@@ -75,8 +75,9 @@ pub mod offset {
 pub mod canon {
     pub use arrow_canon::{
         Run, canonical_binary, canonical_boolean, canonical_fixed_size_binary, canonical_primitive,
-        canonical_view, count_slots, normalized,
+        canonical_view, count_slots,
     };
+    pub use arrow_gather::{canonical, laws, normalized};
 }
 
 /// Types and columns as JSON.

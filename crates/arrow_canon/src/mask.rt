@@ -13,11 +13,7 @@ use std::alloc::Global;
 
 /// The mask of the slots that runs pick; none where no bit is unset. Bits are copied whole bytes at
 /// a time.
-pub(crate) fn mask_of_runs(
-    alloc: Global,
-    validity: Option<&Bitmap>,
-    runs: &[Run],
-) -> Mem<Option<Bitmap>>
+pub fn mask_of_runs(alloc: Global, validity: Option<&Bitmap>, runs: &[Run]) -> Mem<Option<Bitmap>>
     requires { AreWithinMask (option_copied validity) runs.now }
     ensures { IfOk result (λ m.
         m ≡ picked_mask (option_copied validity.entry) (places runs.now)) }

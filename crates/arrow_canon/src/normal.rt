@@ -1,11 +1,10 @@
-//! The canonical array of an array of values.
+//! The canonical node of an array of values.
 ghost use Rattle.std.specs.Prelude.{◌≡◌, IfOk, IsErrOf};
 ghost use Rattle.arrow_types.specs.Seen.{seen};
 ghost use Rattle.arrow_layout.specs.Fits.{Fits};
 ghost use Rattle.arrow_layout.specs.Layouts.{length_of};
 ghost use Rattle.arrow_layout.specs.OfValues.{IsOfValues};
 ghost use Rattle.arrow_meaning.specs.Nodes.{layout_of, primitive_node_layout};
-ghost use Rattle.arrow_canon.specs.Canonical.{canonical_of};
 ghost use Rattle.arrow_canon.specs.Picks.{IsTypeFor};
 ghost use Rattle.arrow_canon.specs.Runs.{AreWithin, canon_of_runs};
 
@@ -13,7 +12,7 @@ use crate::{
     Run, canonical_binary, canonical_boolean, canonical_fixed_size_binary, canonical_primitive,
     canonical_view,
 };
-use arrow_meaning::{ArrayRef, Node, PrimitiveNode};
+use arrow_meaning::{Node, PrimitiveNode};
 use arrow_types::{ArrowDataType, GrowError};
 use std::alloc::Global;
 
@@ -68,8 +67,12 @@ fn canonical_numbers(
     }
 }
 
-/// The canonical node of the slots of a node that runs pick.
-fn canonical_node(
+/// The canonical node of the slots that runs pick out of an array without children, of a type laid
+/// out as the array's.
+///
+/// Overflow exactly where a count or an offset of it passes its range, or the lengths of a column
+/// of views sum to more than 2^62.
+pub fn canonical_values(
     alloc: Global,
     node: &Node,
     dtype: &ArrowDataType,
@@ -107,30 +110,4 @@ fn canonical_node(
         | Node::Union { .. }
         | Node::Dictionary { .. } => unreachable!(),
     }
-}
-
-/// The canonical array of the slots of an array of values, of the same whole type: equal slots give
-/// one layout.
-///
-/// Overflow exactly where a count or an offset of it passes its range, or the lengths of a column
-/// of views sum to more than 2^62.
-pub fn normalized(alloc: Global, array: &ArrayRef) -> Result<ArrayRef, GrowError>
-    requires { IsOfValues array.now }
-    ensures of_values { IfOk result (λ a. IsOfValues a) }
-    ensures ok { IfOk result (λ a. (a ≡ canonical_of array.now) × Fits (canonical_of array.now)) }
-    ensures overflow { IsErrOf result GrowError.Overflow → Fits (canonical_of array.now) → ⊥ }
-{
-    array.invariant();
-    let whole = Run::Slots {
-        start: 0,
-        length: array.len(),
-    };
-    let node = match canonical_node(alloc, array.node(), array.dtype(), &[whole]) {
-        Ok(node) => node,
-        Err(GrowError::Overflow) => return Err(GrowError::Overflow),
-        Err(GrowError::OutOfMemory) => return Err(GrowError::OutOfMemory),
-    };
-    let canonical = ArrayRef::from_node(alloc, node)?;
-    canonical.invariant();
-    Ok(canonical)
 }

@@ -24,7 +24,7 @@ canon_by t (unions_of Dense ids fs) s = dense_unions t 0 (numbers s) (dense_offs
 canon_by t (dictionaries_of k u) s = key_canon t (integer_type k) s (canon u (distinct s))
 canon_by t f s = flat_canon t f s
 
-retyped-by : (u t : TypeData) (f : Form) (s : List Slot) → retyped u (canon_by t f s) ≡ canon_by u f s
+pub retyped-by : (u t : TypeData) (f : Form) (s : List Slot) → retyped u (canon_by t f s) ≡ canon_by u f s
 retyped-by u t (unions_of Sparse ids fs) s = refl
 retyped-by u t (unions_of Dense ids fs) s = refl
 retyped-by u t _ s = refl

@@ -48,7 +48,7 @@ all_in : (d xs : List Slot) → ((x : Slot) → IsIn xs x → IsIn d x) → AllB
 all_in d [] f = tt
 all_in d (x ∷ xs) f = (f x (or_left _ _ (slot_itself x)), all_in d xs (λ y h. f y (or_right _ _ h)))
 
-all_from : (l : Layout) → AllByRecursion (From l) (denote l)
+pub all_from : (l : Layout) → AllByRecursion (From l) (denote l)
 all_from l = all_weaker (IsIn (denote l)) (From l) (λ x h. inl h) (denote l) (all_in (denote l) (denote l) (λ x h. h))
 
 -- ---- from the form of a type

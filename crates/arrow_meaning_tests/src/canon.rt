@@ -1,7 +1,4 @@
 //! What no clause says: that each call succeeds with ample memory.
-ghost use Rattle.std.specs.Prelude.{IfOk};
-ghost use Rattle.arrow_layout.specs.OfValues.{IsOfValues};
-
 use crate::fixtures::{
     array_of_numbers, buffer_of, is_plain, masked, null_in_the_middle, offsets_from_two,
     three_texts,
@@ -10,9 +7,9 @@ use arrow_buffers::{Bitmap, Buffer, Offset, OffsetsBuffer};
 use arrow_bytes::{BinaryArray, FixedSizeBinaryArray, OffsetArray, Utf8Array};
 use arrow_canon::{
     Run, canonical_binary, canonical_boolean, canonical_fixed_size_binary, canonical_primitive,
-    normalized,
 };
 use arrow_flat::{BooleanArray, DaysMs, NativeType, PrimitiveArray, ViewType};
+use arrow_gather::normalized;
 use arrow_meaning::{ArrayRef, Node};
 use arrow_types::{ArrowDataType, GrowError, IntervalUnit};
 use std::alloc::Global;
@@ -270,9 +267,7 @@ fn strings_and_texts_move_up(rt: HostRuntime) -> Result<(), Fail> {
 }
 
 /// The canonical array of an array of values, which is dropped.
-fn normal(alloc: Global, array: ArrayRef) -> Result<ArrayRef, Fail>
-    requires { IsOfValues array }
-{
+fn normal(alloc: Global, array: ArrayRef) -> Result<ArrayRef, Fail> {
     let canonical = normalized(alloc, &array);
     drop(array);
     Ok(canonical?)
@@ -302,9 +297,7 @@ fn an_array_of_numbers_is_normalized(rt: HostRuntime) -> Result<(), Fail> {
 }
 
 /// The array of the texts `a`, null and `d`.
-fn array_of_texts(alloc: Global) -> Result<ArrayRef, Fail>
-    ensures { IfOk result (λ a. IsOfValues a) }
-{
+fn array_of_texts(alloc: Global) -> Result<ArrayRef, Fail> {
     let texts = three_texts::<i64>(alloc)?;
     Ok(ArrayRef::from_node(alloc, Node::LargeUtf8(texts))?)
 }

@@ -1,6 +1,4 @@
 //! The buffers, masks, offsets and arrays that the tests share.
-ghost use Rattle.std.specs.Prelude.{IfOk};
-ghost use Rattle.arrow_layout.specs.OfValues.{IsOfValues};
 
 use arrow_buffers::{Bitmap, Buffer, Offset, OffsetError, Offsets, OffsetsBuffer};
 use arrow_bytes::Utf8Array;
@@ -73,9 +71,7 @@ pub(crate) fn three_texts<O: Offset>(alloc: Global) -> Result<Utf8Array<O>, Fail
 }
 
 /// The array of 1, null over 7, and 3.
-pub(crate) fn array_of_numbers(alloc: Global) -> Result<ArrayRef, Fail>
-    ensures { IfOk result (λ a. IsOfValues a) }
-{
+pub(crate) fn array_of_numbers(alloc: Global) -> Result<ArrayRef, Fail> {
     let (values, validity) = masked(alloc, &[1, 7, 3])?;
     let numbers = PrimitiveArray::try_new(ArrowDataType::Int32, values, Some(validity))?;
     Ok(ArrayRef::from_node(alloc, Node::Primitive(PrimitiveNode::Int32(numbers)))?)

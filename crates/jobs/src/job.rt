@@ -18,7 +18,7 @@ ghost use Rattle.jobs.specs.declared.job.Refusal.TheVariants.{OutOfMemory};
 use crate::depth::is_within;
 use crate::outcome::Outcome;
 use crate::outside::{ReadError, Sink, Source, read_all, write_all};
-use arrow_canon::normalized;
+use arrow_gather::normalized;
 use arrow_meaning::ArrayRef;
 use arrow_types::GrowError;
 use column_json::column_text;

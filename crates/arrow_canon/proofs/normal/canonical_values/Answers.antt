@@ -5,7 +5,7 @@ use Rattle.arrow_meaning.specs.Nodes.{layout_of}
 use Rattle.arrow_meaning.specs.declared.node.Node.TheVariants as made
 use Rattle.arrow_canon.specs.Runs.{canon_of_runs}
 use Rattle.arrow_canon.proofs.Mapped.{map_ok}
-use Rattle.arrow_canon.proofs.normal.canonical_node.Goals as goal
+use Rattle.arrow_canon.proofs.normal.canonical_values.Goals as goal
 
 pub returns-in-Boolean-clause-ok : goal.returns-in-Boolean-clause-ok
 returns-in-Boolean-clause-ok c =

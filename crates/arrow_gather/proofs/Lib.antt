@@ -1,0 +1,16 @@
+pub mod Arms
+pub mod ByChild
+pub mod Dealt
+pub mod Fitting
+pub mod ItemParts
+pub mod KeyPlaces
+pub mod Keyed
+pub mod KeyedParts
+pub mod MapEntries
+pub mod MetValues
+pub mod NodeKinds
+pub mod Seen
+pub mod Selected
+pub mod Sound
+pub mod Sources
+pub mod ValuesKept

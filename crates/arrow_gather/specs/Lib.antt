@@ -1,0 +1,5 @@
+pub mod Distincts
+pub mod Lists
+pub mod Made
+pub mod Met
+pub mod Types

@@ -1,0 +1,8 @@
+//! Canonical arrays of arrays with children: worked rows, and how much work arrays of many slots
+//! are.
+#![tactic(auto)]
+
+mod dictionaries;
+mod fixtures;
+mod rows;
+mod sizes;

@@ -1,0 +1,10 @@
+pub mod ByKind
+pub mod ByUnion
+pub mod Chunks
+pub mod Deals
+pub mod Ids
+pub mod KeptPlaces
+pub mod ListItems
+pub mod Occurrences
+pub mod Rising
+pub mod Spans

@@ -1,0 +1,4 @@
+pub mod Dealt
+pub mod Items
+pub mod Kinds
+pub mod Unions

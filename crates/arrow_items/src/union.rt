@@ -1,0 +1,228 @@
+//! The type numbers of picked slots of unions, and the fields that they select.
+ghost use Rattle.std.specs.Prelude.{◌≡◌, ◌↔◌, ℕ, ◌++◌, ◌<◌, pos, length as len, map, Some, replicate, IfOk, IsTrue, OnOk};
+ghost use Rattle.std.specs.List.{AllByRecursion, range_with_len};
+ghost use Rattle.std.specs.Option.{option_copied};
+ghost use Rattle.arrow_types.specs.Carried.{IsBelow, IsCarried};
+ghost use Rattle.arrow_types.specs.Seen.{seen, seen_union};
+ghost use Rattle.arrow_types.specs.Select.{first_number, last_place, nat_of, select};
+ghost use Rattle.arrow_types.specs.Types.{physical_of};
+ghost use Rattle.arrow_types.specs.declared.datatype.PhysicalType.TheVariants as physical;
+ghost use Rattle.arrow_layout.specs.Forms.{form_of, ids_by};
+ghost use Rattle.arrow_layout.specs.WellFormed.{positions, type_limit};
+ghost use Rattle.arrow_canon.specs.Picks.{picks};
+ghost use Rattle.arrow_canon.specs.Runs.{places, places_of, IsWithin, AreWithin};
+ghost use Rattle.arrow_items.specs.Unions.{fill_field, fill_number, numbers_picked};
+
+use arrow_buffers::Buffer;
+use arrow_canon::{Run, count_slots};
+use arrow_types::{ArrowDataType, Mem, UnionType};
+use std::alloc::{AllocError, Global};
+
+/// The type numbers of the slots that runs pick: the first number of the type for a filling.
+pub fn union_types(
+    alloc: Global,
+    dtype: &ArrowDataType,
+    types: &Buffer<i8>,
+    runs: &[Run],
+) -> Mem<Buffer<i8>>
+    requires union { physical_of (seen dtype.now) ≡ Some physical.Union }
+    requires carried { IsCarried (seen dtype.now) }
+    requires numbers { AllByRecursion (IsBelow (type_limit (seen dtype.now))) types.now }
+    requires within { AreWithin (len types.now) runs.now }
+    ensures { IfOk result (λ ts. ts ≡ numbers_picked (seen dtype.now) types.now (places runs.now)) }
+{
+    let filling = filling_number(dtype);
+    let numbers = picked_numbers(alloc, types.as_slice(), &filling, runs)?;
+    let picked = Buffer::from_vec(alloc, numbers)?;
+    Ok(picked)
+}
+
+/// The position of the field that each type number selects.
+pub fn fields_of_types(alloc: Global, dtype: &ArrowDataType, types: &Buffer<i8>) -> Mem<Vec<usize>>
+    requires { physical_of (seen dtype.now) ≡ Some physical.Union }
+    ensures { IfOk result (λ v. v.items ≡ positions (seen dtype.now) types.now) }
+{
+    let numbers = types.as_slice();
+    let table = field_table(alloc, declared_ids(dtype))?;
+    let fields = looked_up(alloc, numbers, table.as_slice())?;
+    Ok(fields)
+}
+
+/// The position of the field that a filling selects.
+pub fn filling_field(dtype: &ArrowDataType) -> usize
+    requires { physical_of (seen dtype.now) ≡ Some physical.Union }
+    ensures { result ≡ fill_field (seen dtype.now) }
+{
+    let ids = declared_ids(dtype);
+    selected_field(ids, first_number(ids))
+}
+
+/// The type number of a filling.
+#[tactic(auto, using(crate::proofs::Ids::first_small))]
+fn filling_number(dtype: &ArrowDataType) -> i8
+    requires union { physical_of (seen dtype.now) ≡ Some physical.Union }
+    requires carried { IsCarried (seen dtype.now) }
+    ensures { result ≡ pos (fill_number (seen dtype.now)) }
+{
+    first_number(declared_ids(dtype)) as i8
+}
+
+/// The ids of a type of unions, if it has any.
+fn declared_ids(dtype: &ArrowDataType) -> Option<&[i32]>
+    ensures { option_copied result ≡ ids_by (form_of (seen dtype.now)) }
+{
+    match dtype.to_logical_type() {
+        ArrowDataType::Union(union) => ids_of(union.get()),
+        _ => None,
+    }
+}
+
+/// The ids of a union, if it has any.
+fn ids_of(union: &UnionType) -> Option<&[i32]>
+    ensures { option_copied result ≡ ids_by (form_of (seen_union union.now)) }
+{
+    match &union.ids {
+        Some(ids) => Some(ids.as_slice()),
+        None => None,
+    }
+}
+
+/// The first id as a position, 0 where there is none.
+fn first_number(ids: Option<&[i32]>) -> usize
+    ensures { result ≡ first_number (option_copied ids.entry) }
+{
+    match ids {
+        Some(ids) => match ids.first() {
+            Some(id) => position(*id),
+            None => 0,
+        },
+        None => 0,
+    }
+}
+
+/// A number as a position, 0 where it is negative.
+fn position(number: i32) -> usize
+    ensures { result ≡ nat_of number }
+{
+    match usize::try_from(number) {
+        Ok(position) => position,
+        Err(_) => 0,
+    }
+}
+
+/// The position of the field that a number selects: with ids the last position at which the number
+/// stands among them, and 0 where it stands nowhere; without ids the number itself.
+fn selected_field(ids: Option<&[i32]>, number: usize) -> usize
+    ensures { result ≡ select (option_copied ids.entry) number }
+{
+    match ids {
+        Some(ids) => last_place(ids, number),
+        None => number,
+    }
+}
+
+/// The last position of the number among the ids, 0 where it stands nowhere.
+fn last_place(ids: &[i32], number: usize) -> usize
+    ensures { result ≡ last_place 0 0 ids.now (pos number) }
+{
+    let mut place = 0;
+    for (i, id) in ids.iter().enumerate() {
+        if is_number(*id, number) {
+            place = i;
+        }
+    }
+    place
+}
+
+/// Whether the id is the number.
+fn is_number(id: i32, number: usize) -> bool
+    ensures { IsTrue result ↔ (id ≡ pos number) }
+{
+    match usize::try_from(id) {
+        Ok(id) => id == number,
+        Err(_) => false,
+    }
+}
+
+/// The position of the field that each number below 128 selects.
+fn field_table(alloc: Global, ids: Option<&[i32]>) -> Mem<Vec<usize>>
+    ensures { IfOk result (λ v.
+        v.items ≡ map (select (option_copied ids.entry)) (range_with_len 0 128)) }
+{
+    let mut table = Vec::new(alloc);
+    table.reserve(128)?;
+    for number in 0..128 {
+        table.push(selected_field(ids, number))?;
+    }
+    Ok(table)
+}
+
+/// What a table of 128 fields has at each type number, where a negative one counts as 0.
+fn looked_up(alloc: Global, numbers: &[i8], table: &[usize]) -> Mem<Vec<usize>>
+    requires { len table.now ≡ 128 }
+    ensures { IfOk result (λ v. (select_field : ℕ → ℕ)
+        → table.now ≡ map select_field (range_with_len 0 128)
+        → v.items ≡ map select_field (map nat_of numbers.now)) }
+{
+    let mut fields = Vec::new(alloc);
+    fields.reserve(numbers.len())?;
+    for number in numbers {
+        fields.push(table[small_position(number)])?;
+    }
+    Ok(fields)
+}
+
+/// A type number as a position, 0 where it is negative.
+fn small_position(number: &i8) -> usize
+    ensures same { result ≡ nat_of number.now }
+    ensures small { result < 128 }
+{
+    match usize::try_from(*number) {
+        Ok(position) => position,
+        Err(_) => 0,
+    }
+}
+
+/// The type numbers that runs pick, and another for a filling.
+fn picked_numbers(alloc: Global, types: &[i8], filling: &i8, runs: &[Run]) -> Mem<Vec<i8>>
+    requires { AreWithin (len types.now) runs.now }
+    ensures { IfOk result (λ v. v.items ≡ picks filling.now types.now (places runs.now)) }
+{
+    let Some(room) = count_slots(runs) else {
+        return Err(AllocError);
+    };
+    let mut numbers = Vec::new(alloc);
+    numbers.reserve(room)?;
+    for run in runs {
+        push_numbers(&mut numbers, types, filling, *run)?;
+    }
+    Ok(numbers)
+}
+
+/// Appends the type numbers of a run.
+fn push_numbers(numbers: &mut Vec<i8>, types: &[i8], filling: &i8, run: Run) -> Mem<()>
+    requires { IsWithin (len types.now) run }
+    ensures { OnOk result (numbers.new.items
+        ≡ numbers.old.items ++ picks filling.now types.now (places_of run)) }
+{
+    match run {
+        Run::Slots { start, length } => {
+            numbers.extend_from_slice(&types[start..start + length])?;
+            Ok(())
+        }
+        Run::Fill { count } => {
+            push_copies(numbers, filling, count)?;
+            Ok(())
+        }
+    }
+}
+
+/// Appends n copies of a type number.
+fn push_copies(numbers: &mut Vec<i8>, number: &i8, count: usize) -> Mem<()>
+    ensures { OnOk result (numbers.new.items ≡ numbers.old.items ++ replicate count number.now) }
+{
+    let Some(end) = numbers.len().checked_add(count) else {
+        return Err(AllocError);
+    };
+    numbers.resize(end, *number)
+}
