@@ -14,4 +14,5 @@ mod spelling;
 mod spelling_out;
 
 pub use layout::same_layout;
-pub use spelling::slot_bytes;
+pub use slot_parts::{SlotParts, parts_of};
+pub use spelling::{slot_bytes, spelling_length};

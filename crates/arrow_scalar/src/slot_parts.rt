@@ -15,9 +15,9 @@ use arrow_meaning::{ArrayRef, KeyNode, Node, NodeKey, PrimitiveNode, TypedArray}
 use arrow_types::Mem;
 use std::alloc::Global;
 
-/// The parts of a slot that isn't null.
+/// The parts of a slot that isn't null: its value, or the slots of children that it is made of.
 #[derive(Clone, Copy)]
-pub(crate) enum SlotParts<'a> {
+pub enum SlotParts<'a> {
     /// A bit.
     Bool(bool),
     /// The numbers of the value at the slot's own position.
@@ -34,8 +34,8 @@ pub(crate) enum SlotParts<'a> {
     Chosen(u8, &'a ArrayRef, usize),
 }
 
-/// The parts of a slot that isn't null.
-pub(crate) fn parts_of(alloc: Global, array: &ArrayRef, i: usize) -> Mem<SlotParts<'_>>
+/// The parts of a slot that isn't null. Takes memory for the slot of a union alone.
+pub fn parts_of(alloc: Global, array: &ArrayRef, i: usize) -> Mem<SlotParts<'_>>
     requires within { i < length_of array.now }
     requires valid { valid_in array.now i ≡ true }
     ensures { IfOk result (λ p. IsMadeOf p array.now i) }

@@ -29,8 +29,8 @@ pub fn slot_bytes(alloc: Global, array: &ArrayRef, i: usize) -> Mem<Vec<u8>>
     Ok(bytes)
 }
 
-/// The count of the bytes, or the greatest `usize` where it passes that.
-fn spelling_length(alloc: Global, array: &ArrayRef, i: usize) -> Mem<usize>
+/// The count of the bytes that spell a slot, or the greatest `usize` where it passes that.
+pub fn spelling_length(alloc: Global, array: &ArrayRef, i: usize) -> Mem<usize>
     requires { i < length_of array.now }
     ensures { IfOk result (λ n. n ≡ min (count (slot_bytes (slot_at array.now i))) (2 ^ 64 - 1)) }
 {
