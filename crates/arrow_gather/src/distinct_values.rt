@@ -12,6 +12,7 @@ ghost use Rattle.arrow_canon.specs.Picks.{pick, picks, IsPlace, ArePlaces};
 ghost use Rattle.arrow_gather.specs.Met.{AreKeyed, AreMet, IsKeyOf};
 
 use crate::dictionary::DictionaryParts;
+use crate::spelling_room::ask_for_room;
 use arrow_buffers::MutableBitmap;
 use arrow_canon::Run;
 use arrow_meaning::{ArrayRef, Node};
@@ -206,6 +207,7 @@ impl KeyedSlots {
         ensures { IfOk result (λ b.
             AreKeyed array.now (picks null (denote array.now) positions.now) b) }
     {
+        ask_for_room(alloc, array, positions)?;
         let mut slots = KeyedSlots::new(alloc);
         slots.keys.reserve(positions.len())?;
         for position in positions {
@@ -242,7 +244,7 @@ fn is_null(spelling: &[u8]) -> bool
 }
 
 /// Where the value of a slot stands.
-fn source_at(array: &ArrayRef, i: usize) -> Source
+pub(crate) fn source_at(array: &ArrayRef, i: usize) -> Source
     requires { i < length_of array.now }
     ensures { result ≡ met.source_at array.now i }
 {

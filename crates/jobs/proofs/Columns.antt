@@ -35,3 +35,6 @@ deeper false n limit d e = past n limit (λ h. absurd (never (d.1 h)))
 -- the type of what was read is as deep as the type was found to be
 pub read_deeper : (t : TypeData) (d : ColumnData) (b : Bool) (limit : ℕ) → Decides b (depth_of t ≤ limit) → b ≡ false → limit < depth_of (type_of (data_layout t d))
 read_deeper t d b limit h e = subst (λ u. limit < depth_of u) (sym (type_read t d)) (deeper b (depth_of t) limit h e)
+
+pub read_within : (t : TypeData) (d : ColumnData) (b : Bool) (limit : ℕ) → Decides b (depth_of t ≤ limit) → b ≡ true → depth_of (type_of (data_layout t d)) ≤ limit
+read_within t d b limit h e = subst (λ u. depth_of u ≤ limit) (sym (type_read t d)) (h.0 e)

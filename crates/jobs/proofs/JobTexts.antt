@@ -1,21 +1,29 @@
--- Two jobs are answered by one text exactly when their types and their slots are equal.
-use Rattle.std.proofs.Common.{◌≡◌, ◌≤◌, ℕ, List, refl, sym, ap, ◌∙◌, subst, Option, Some, None}
+-- Jobs of one column: what they take, and when two of them are answered by one text.
+use Rattle.std.proofs.Common.{◌≡◌, ◌≤◌, ℕ, List, [], ◌∷◌, ◌++◌, take, length, refl, sym, ap, ◌∙◌, subst, append-nil, arith, Option, Some, None}
+use Rattle.std.specs.Prelude.{option_map}
+use Rattle.std.proofs.lemmas.List.{take_all}
 use Rattle.arrow_types.specs.Depth.{depth_of}
+use Rattle.arrow_flat.specs.Slots.{Slot}
 use Rattle.type_json.specs.TypeJson.{IsType}
-use Rattle.arrow_layout.specs.Layouts.{Layout, type_of}
+use Rattle.arrow_layout.specs.Canon.{canon}
+use Rattle.arrow_layout.specs.Layouts.{Layout, length_of, type_of}
 use Rattle.arrow_layout.specs.WellFormed.{WellFormed}
 use Rattle.arrow_layout.specs.Denote.{denote}
 use Rattle.arrow_layout.specs.Fits.{Fits}
 use Rattle.arrow_layout.specs.Forms.{form_of}
 use Rattle.arrow_layout.proofs.Conforms.{conforms}
+use Rattle.arrow_layout.proofs.Lengths.{length-denote}
 use Rattle.arrow_layout.proofs.Unique.{carried_of}
 use Rattle.arrow_layout.proofs.CutForms.{cut_well_formed, type-cut}
 use Rattle.arrow_canon.specs.Canonical.{canonical_of}
 use Rattle.column_grammar.specs.Laws.{HasJsonForm}
-use Rattle.column_grammar.specs.Reads.{sliced_layout, IsWithin}
+use Rattle.column_grammar.specs.Reads.{Column, IsValidColumn, IsWithin, column_of, selected_layout, sliced_layout}
+use Rattle.column_grammar.specs.Writes.{column_text}
 use Rattle.column_grammar.proofs.Typed.{read_form}
-use Rattle.jobs.specs.Job.{deepest, IsJob, canon_text}
+use Rattle.jobs.specs.Job.{HasAnswer, IsJob, Job, answer_text, canon_of, deepest, job_of, job_slots, job_type, whole_of}
 use Rattle.jobs.specs.Laws.{IsTaken}
+use Rattle.jobs.specs.declared.command.Command.{Command}
+use Rattle.jobs.specs.declared.command.Command.TheVariants.{Canon}
 use Rattle.jobs.proofs.Equal.{equal_texts, same_texts}
 
 sliced_type : (l : Layout) (s : Option (ℕ × ℕ)) → type_of (sliced_layout l s) ≡ type_of l
@@ -26,25 +34,74 @@ sliced_well_formed : (l : Layout) (s : Option (ℕ × ℕ)) → WellFormed l →
 sliced_well_formed l None w h = w
 sliced_well_formed l (Some s) w h = cut_well_formed l s.0 s.1 w h
 
-module _ (bytes : List ℕ) (l : Layout) (job : IsJob bytes l) where
-  same_type : type_of job.column.layout ≡ type_of l
-  same_type = sym (ap type_of job.selects ∙ sliced_type job.column.layout job.column.slice)
+pub selected_well_formed : (k : Column) → IsValidColumn k → WellFormed (selected_layout k)
+selected_well_formed k h = sliced_well_formed k.layout k.slice h.well_formed h.within
 
-  pub well_formed : WellFormed l
-  well_formed = subst WellFormed (sym job.selects) (sliced_well_formed job.column.layout job.column.slice job.sound.well_formed job.sound.within)
+-- all slots, taken once
+all_once : (xs : List Slot) (n : ℕ) → length xs ≡ n → (take n xs ++ []) ++ [] ≡ xs
+all_once xs n e = append-nil (take n xs ++ []) ∙ append-nil (take n xs) ∙ take_all n xs (omega (arith, e))
 
-  pub taken : IsTaken (type_of l)
-  taken = record {
-    carried = carried_of l well_formed;
-    read = subst (λ t. HasJsonForm (form_of t)) same_type (read_form job.read_as.value job.column job.read_as.is_column);
-    is_type = subst IsType same_type job.is_type;
-    shallow = subst (λ t. depth_of t ≤ deepest) same_type job.read_as.shallow;
+pub whole_slots : (k : Column) → IsValidColumn k → job_slots (whole_of k) ≡ denote (selected_layout k)
+whole_slots k h = all_once (denote (selected_layout k)) (length_of (selected_layout k)) (length-denote (selected_layout k) (selected_well_formed k h))
+
+pub whole_canon : (k : Column) → IsValidColumn k → canon_of (whole_of k) ≡ canonical_of (selected_layout k)
+whole_canon k h = ap (canon (type_of (selected_layout k))) (whole_slots k h)
+
+-- a job of one column's command is one column
+pub whole_part : (o : Option Column) (j : Job) → option_map whole_of o ≡ Some j → (k : Column) × (o ≡ Some k) × (whole_of k ≡ j)
+whole_part None j e = let no : ⊥ = cc in absurd no
+whole_part (Some k) j e = let f : whole_of k ≡ j = cc in (k, refl, f)
+
+module _ (bytes : List ℕ) (k : Column) (job : IsJob Canon bytes (whole_of k)) (is : column_of job.in_grammar.value ≡ Some k) where
+  same_type : type_of k.layout ≡ type_of (selected_layout k)
+  same_type = sym (sliced_type k.layout k.slice)
+
+  valid : IsValidColumn k
+  valid = job.sound.0
+
+  column_taken : IsTaken (type_of (selected_layout k))
+  column_taken = record {
+    carried = carried_of (selected_layout k) (selected_well_formed k valid);
+    read = subst (λ t. HasJsonForm (form_of t)) same_type (read_form job.in_grammar.value k is);
+    is_type = subst IsType same_type job.are_types.0;
+    shallow = subst (λ t. depth_of t ≤ deepest) same_type job.in_grammar.shallow.0;
   }
 
-pub equal_jobs : (a b : List ℕ) (l m : Layout) → IsJob a l → IsJob b m → Fits (canonical_of l) → Fits (canonical_of m) → canon_text l ≡ canon_text m
-    → (type_of l ≡ type_of m) × (denote l ≡ denote m)
-equal_jobs a b l m j k fj fk =
-    equal_texts (type_of l) (type_of m) (denote l) (denote m) (taken a l j) (taken b m k) (conforms l (well_formed a l j)) (conforms m (well_formed b m k)) fj fk
+equal_wholes : (a b : List ℕ) (k m : Column) (j : IsJob Canon a (whole_of k)) (i : IsJob Canon b (whole_of m))
+    → column_of j.in_grammar.value ≡ Some k → column_of i.in_grammar.value ≡ Some m → HasAnswer Canon (whole_of k) → HasAnswer Canon (whole_of m)
+    → answer_text Canon (whole_of k) ≡ answer_text Canon (whole_of m) → (job_type (whole_of k) ≡ job_type (whole_of m)) × (job_slots (whole_of k) ≡ job_slots (whole_of m))
+equal_wholes a b k m j i ek em fk fm e =
+    let wk = whole_canon k j.sound.0 in
+    let wm = whole_canon m i.sound.0 in
+    let same =
+    equal_texts (type_of (selected_layout k)) (type_of (selected_layout m)) (denote (selected_layout k)) (denote (selected_layout m)) (column_taken a k j ek) (column_taken b m i em)
+    (conforms (selected_layout k) (selected_well_formed k j.sound.0)) (conforms (selected_layout m) (selected_well_formed m i.sound.0)) (subst Fits wk fk) (subst Fits wm fm)
+    (ap column_text (sym wk) ∙ e ∙ ap column_text wm) in
+    (same.0, whole_slots k j.sound.0 ∙ same.1 ∙ sym (whole_slots m i.sound.0))
 
-pub same_jobs : (l m : Layout) → (type_of l ≡ type_of m) × (denote l ≡ denote m) → canon_text l ≡ canon_text m
-same_jobs l m e = same_texts (type_of l) (type_of m) (denote l) (denote m) e
+-- What two jobs have in common that are answered by one text.
+abbrev AreOne : Job → Job → Type 0
+AreOne j k = answer_text Canon j ≡ answer_text Canon k → (job_type j ≡ job_type k) × (job_slots j ≡ job_slots k)
+
+-- A job of one column, what of it is known.
+abbrev IsAnsweredAs : List ℕ → Column → Job → Type 0
+IsAnsweredAs bytes c j = ((job : IsJob Canon bytes j) × (column_of job.in_grammar.value ≡ Some c)) × HasAnswer Canon j
+
+answered_as : (bytes : List ℕ) (j : Job) → IsJob Canon bytes j → HasAnswer Canon j → (c : Column) × (whole_of c ≡ j) × IsAnsweredAs bytes c j
+answered_as bytes j h f = let p = whole_part (column_of h.in_grammar.value) j h.in_grammar.is_job in (p.0, p.2, ((h, p.1), f))
+
+by_columns : (a b : List ℕ) (c d : Column) (j k : Job) → whole_of c ≡ j → whole_of d ≡ k → IsAnsweredAs a c j → IsAnsweredAs b d k → AreOne j k
+by_columns a b c d j k ec ed =
+    subst (λ j. IsAnsweredAs a c j → IsAnsweredAs b d k → AreOne j k) ec
+    (subst (λ k. IsAnsweredAs a c (whole_of c) → IsAnsweredAs b d k → AreOne (whole_of c) k) ed
+    (λ h g e. equal_wholes a b c d h.0.0 g.0.0 h.0.1 g.0.1 h.1 g.1 e))
+
+pub equal_jobs : (a b : List ℕ) (j k : Job) → IsJob Canon a j → IsJob Canon b k → HasAnswer Canon j → HasAnswer Canon k → answer_text Canon j ≡ answer_text Canon k
+    → (job_type j ≡ job_type k) × (job_slots j ≡ job_slots k)
+equal_jobs a b j k hj hk fj fk =
+    let p = answered_as a j hj fj in
+    let q = answered_as b k hk fk in
+    by_columns a b p.0 q.0 j k p.1 q.1 p.2 q.2
+
+pub same_jobs : (j k : Job) → (job_type j ≡ job_type k) × (job_slots j ≡ job_slots k) → answer_text Canon j ≡ answer_text Canon k
+same_jobs j k e = same_texts (job_type j) (job_type k) (job_slots j) (job_slots k) e

@@ -1,15 +1,14 @@
 -- What the bytes that a run took say of those that the source told.
-use Rattle.std.proofs.Common.{◌≡◌, ◌<◌, arith, ℕ, ◌++◌, [], length, length-append, subst, append-nil, List, refl, ap, sym, ◌∙◌, Option, Some, None}
+use Rattle.std.proofs.Common.{◌≡◌, ◌<◌, arith, ℕ, ◌++◌, [], ◌∷◌, length, length-append, subst, append-nil, List, refl, ap, sym, ◌∙◌, Option, Some, None}
 use Rattle.std.specs.Io.KnownBytes.{Consumes, IsAtEnd}
-use Rattle.std.specs.Prelude.{IfSome}
-use Rattle.arrow_layout.specs.Layouts.{Layout, type_of}
-use Rattle.arrow_types.specs.Depth.{depth_of}
-use Rattle.arrow_layout.specs.Fits.{Fits}
+use Rattle.std.specs.List.{AllByRecursion}
+use Rattle.std.specs.Prelude.{IfSome, zero, suc}
 use Rattle.serde_json.specs.Data.{Data}
-use Rattle.arrow_canon.specs.Canonical.{canonical_of}
-use Rattle.column_grammar.specs.Reads.{Column, column_of, selected_layout, IsValidColumn}
+use Rattle.column_grammar.specs.Reads.{Column, IsValidColumn}
 use Rattle.jobs.specs.Causes.{TookMore}
-use Rattle.jobs.specs.Job.{deepest, IsRead, IsColumn, IsJob, Verdict, too_long, bad_text, bad_job, too_deep, bad_layout, overflows, a_job, IsOf, canon_text}
+use Rattle.jobs.specs.Job.{IsRead, IsInGrammar, IsJob, IsFirstBad, IsShallow, Job, HasAnswer, IsOfJob, answer_text, job_of, Verdict, too_long, bad_text, bad_job, too_deep, bad_layout, not_canonical, overflows, answered, IsOf}
+use Rattle.jobs.specs.declared.command.Command.{Command}
+use Rattle.jobs.specs.declared.command.Command.TheVariants.{Canon, Check}
 
 -- what was taken up to the end is all that there was
 all_taken : (left bytes rest : List ℕ) → left ≡ bytes ++ rest → rest ≡ [] → left ≡ bytes
@@ -22,102 +21,180 @@ taken_to_end P None after bytes taken end h = tt
 taken_to_end P (Some left) None bytes taken end h = absurd taken
 taken_to_end P (Some left) (Some rest) bytes taken end h = (ap Some end, subst P (sym (all_taken left bytes rest taken end)) h)
 
-pub verdict_of_taken : (v : Verdict) (before after : Option (List ℕ)) (bytes taken : List ℕ) → Consumes before after bytes → IsAtEnd after → taken ≡ bytes → IsOf v taken
-    → IfSome before (λ told. IsOf v told)
-verdict_of_taken v None after bytes taken c end e h = tt
-verdict_of_taken v (Some left) after bytes taken c end e h = (taken_to_end (IsOf v) (Some left) after bytes c end (subst (IsOf v) e h)).1
+-- the same without the end
+pub told_of_taken : (P : List ℕ → Type 0) (before after : Option (List ℕ)) (bytes taken : List ℕ) → Consumes before after bytes → IsAtEnd after → taken ≡ bytes → P taken → IfSome before P
+told_of_taken P None after bytes taken c end e h = tt
+told_of_taken P (Some left) after bytes taken c end e h = (taken_to_end P (Some left) after bytes c end (subst P e h)).1
 
 -- what a run that wrote so says of the bytes that were told
-pub written_of_taken : (W : List ℕ → Type 0) (before after : Option (List ℕ)) (bytes taken text written : List ℕ) → Consumes before after bytes → IsAtEnd after → taken ≡ bytes
-    → ((c : Layout) × (IsJob taken c × Fits (canonical_of c)) × (text ≡ canon_text c)) → written ≡ text → W written
-    → IfSome before (λ told. (after ≡ Some []) × ((c : Layout) × (IsJob told c × Fits (canonical_of c)) × W (canon_text c)))
-written_of_taken W before after bytes taken text written c end e job is wrote =
-    taken_to_end (λ told. (d : Layout) × (IsJob told d × Fits (canonical_of d)) × W (canon_text d)) before after bytes c end
-    (job.0, subst (λ told. IsJob told job.0 × Fits (canonical_of job.0)) e job.1, subst W (is ∙ job.2) wrote)
+pub written_of_taken : (command : Command) (W : List ℕ → Type 0) (before after : Option (List ℕ)) (bytes taken text written : List ℕ) → Consumes before after bytes → IsAtEnd after → taken ≡ bytes
+    → ((j : Job) × (IsJob command taken j × HasAnswer command j) × (text ≡ answer_text command j)) → written ≡ text → W written
+    → IfSome before (λ told. (after ≡ Some []) × ((j : Job) × (IsJob command told j × HasAnswer command j) × W (answer_text command j)))
+written_of_taken command W before after bytes taken text written c end e job is wrote =
+    taken_to_end (λ told. (j : Job) × (IsJob command told j × HasAnswer command j) × W (answer_text command j)) before after bytes c end
+    (job.0, subst (λ told. IsJob command told job.0 × HasAnswer command job.0) e job.1, subst W (is ∙ job.2) wrote)
 
 -- ---- the verdicts exclude one another
 
 same_value : (bytes : List ℕ) (v w : Data) → IsRead bytes v → IsRead bytes w → v ≡ w
 same_value bytes v w a b = let e : Some v ≡ Some w = sym a.is_read ∙ b.is_read in cc
 
-unread : (bytes : List ℕ) (v : Data) → IsRead bytes v → IsOf bad_text bytes → ⊥
-unread bytes v a h = let e : Some v ≡ None = sym a.is_read ∙ h.1 in cc
+bad_unread : (command : Command) (bytes : List ℕ) (v : Data) → IsRead bytes v → IsOf command bad_text bytes → ⊥
+bad_unread command bytes v a h = let e : Some v ≡ None = sym a.is_read ∙ h.1 in cc
 
-none_some : (v w : Data) (c : Column) → v ≡ w → column_of v ≡ None → column_of w ≡ Some c → ⊥
-none_some v w c e n s = cc
+none_some : (command : Command) (v w : Data) (j : Job) → v ≡ w → job_of command v ≡ None → job_of command w ≡ Some j → ⊥
+none_some command v w j e n s = let f : None ≡ Some j = sym n ∙ ap (job_of command) e ∙ s in cc
 
-no_column : (bytes : List ℕ) (c : Column) → IsOf bad_job bytes → IsColumn bytes c → ⊥
-no_column bytes c h k = none_some h.0 k.value c (same_value bytes h.0 k.value h.1 k.read_as) h.2 k.is_column
+no_job : (command : Command) (bytes : List ℕ) (w : Data) (j : Job) → IsOf command bad_job bytes → IsRead bytes w → job_of command w ≡ Some j → ⊥
+no_job command bytes w j h r s = none_some command h.0 w j (same_value bytes h.0 w h.1 r) h.2 s
 
-same_column : (bytes : List ℕ) (v w : Data) (c d : Column) → IsRead bytes v → IsRead bytes w → column_of v ≡ Some c → column_of w ≡ Some d → c ≡ d
-same_column bytes v w c d a b n s = let f : Some c ≡ Some d = sym n ∙ ap column_of (same_value bytes v w a b) ∙ s in cc
+one_job : (command : Command) (bytes : List ℕ) (v w : Data) (j k : Job) → IsRead bytes v → IsRead bytes w → job_of command v ≡ Some j → job_of command w ≡ Some k → j ≡ k
+one_job command bytes v w j k a b n s = let f : Some j ≡ Some k = sym n ∙ ap (job_of command) (same_value bytes v w a b) ∙ s in cc
 
-one_column : (bytes : List ℕ) (c d : Column) → IsColumn bytes c → IsColumn bytes d → c ≡ d
-one_column bytes c d h k = same_column bytes h.value k.value c d h.read_as k.read_as h.is_column k.is_column
+same_job : (command : Command) (bytes : List ℕ) (j k : Job) → IsInGrammar command bytes j → IsInGrammar command bytes k → j ≡ k
+same_job command bytes j k h g = one_job command bytes h.value g.value j k h.read_as g.read_as h.is_job g.is_job
 
-deep_column : (bytes : List ℕ) (c : Column) → IsOf too_deep bytes → IsColumn bytes c → ⊥
-deep_column bytes c h k =
-    let same = same_column bytes h.0 k.value h.1 c h.2 k.read_as h.3 k.is_column in
-    let deep = subst (λ d. deepest < depth_of (type_of d.layout)) same h.4 in
-    omega (arith, deep, k.shallow)
+deep_job : (command : Command) (bytes : List ℕ) (k : Job) → IsOf command too_deep bytes → IsInGrammar command bytes k → ⊥
+deep_job command bytes k h g =
+    h.4 (subst (λ j. AllByRecursion IsShallow j.columns) (sym (one_job command bytes h.0 g.value h.1 k h.2 g.read_as h.3 g.is_job)) g.shallow)
 
-pub one_layout : (bytes : List ℕ) (l m : Layout) → IsJob bytes l → IsJob bytes m → l ≡ m
-one_layout bytes l m h k = h.selects ∙ ap selected_layout (one_column bytes h.column k.column h.read_as k.read_as) ∙ sym k.selects
+bad_sound : (i : ℕ) (cs : List Column) → IsFirstBad i cs → AllByRecursion IsValidColumn cs → ⊥
+bad_sound i [] h s = h
+bad_sound zero (c ∷ cs) h s = h s.0
+bad_sound (suc i) (c ∷ cs) h s = bad_sound i cs h.1 s.1
 
--- a job is none of the causes
-job_sound : (bytes : List ℕ) (l : Layout) → IsJob bytes l → IsOf bad_layout bytes → ⊥
-job_sound bytes l h k = k.2 (subst IsValidColumn (one_column bytes h.column k.0 h.read_as k.1) h.sound)
+one_first : (i k : ℕ) (cs : List Column) → IsFirstBad i cs → IsFirstBad k cs → i ≡ k
+one_first i k [] h g = absurd h
+one_first zero zero (c ∷ cs) h g = refl
+one_first zero (suc k) (c ∷ cs) h g = absurd (h g.0)
+one_first (suc i) zero (c ∷ cs) h g = absurd (g h.0)
+one_first (suc i) (suc k) (c ∷ cs) h g = ap suc (one_first i k cs h.1 g.1)
 
-pub one_verdict : (bytes : List ℕ) (a b : Verdict) → IsOf a bytes → IsOf b bytes → a ≡ b
-one_verdict bytes too_long too_long h k = refl
-one_verdict bytes too_long bad_text h k = absurd (omega (arith, h, k.0))
-one_verdict bytes too_long bad_job h k = absurd (omega (arith, h, k.1.short))
-one_verdict bytes too_long too_deep h k = absurd (omega (arith, h, k.2.short))
-one_verdict bytes too_long bad_layout h k = absurd (omega (arith, h, k.1.read_as.short))
-one_verdict bytes too_long overflows h k = absurd (omega (arith, h, k.1.read_as.read_as.short))
-one_verdict bytes too_long a_job h k = absurd (omega (arith, h, k.1.read_as.read_as.short))
-one_verdict bytes bad_text too_long h k = absurd (omega (arith, k, h.0))
-one_verdict bytes bad_text bad_text h k = refl
-one_verdict bytes bad_text bad_job h k = absurd (unread bytes k.0 k.1 h)
-one_verdict bytes bad_text too_deep h k = absurd (unread bytes k.0 k.2 h)
-one_verdict bytes bad_text bad_layout h k = absurd (unread bytes k.1.value k.1.read_as h)
-one_verdict bytes bad_text overflows h k = absurd (unread bytes k.1.read_as.value k.1.read_as.read_as h)
-one_verdict bytes bad_text a_job h k = absurd (unread bytes k.1.read_as.value k.1.read_as.read_as h)
-one_verdict bytes bad_job too_long h k = absurd (omega (arith, k, h.1.short))
-one_verdict bytes bad_job bad_text h k = absurd (unread bytes h.0 h.1 k)
-one_verdict bytes bad_job bad_job h k = refl
-one_verdict bytes bad_job too_deep h k = absurd (none_some h.0 k.0 k.1 (same_value bytes h.0 k.0 h.1 k.2) h.2 k.3)
-one_verdict bytes bad_job bad_layout h k = absurd (no_column bytes k.0 h k.1)
-one_verdict bytes bad_job overflows h k = absurd (no_column bytes k.1.column h k.1.read_as)
-one_verdict bytes bad_job a_job h k = absurd (no_column bytes k.1.column h k.1.read_as)
-one_verdict bytes too_deep too_long h k = absurd (omega (arith, k, h.2.short))
-one_verdict bytes too_deep bad_text h k = absurd (unread bytes h.0 h.2 k)
-one_verdict bytes too_deep bad_job h k = absurd (none_some k.0 h.0 h.1 (same_value bytes k.0 h.0 k.1 h.2) k.2 h.3)
-one_verdict bytes too_deep too_deep h k = refl
-one_verdict bytes too_deep bad_layout h k = absurd (deep_column bytes k.0 h k.1)
-one_verdict bytes too_deep overflows h k = absurd (deep_column bytes k.1.column h k.1.read_as)
-one_verdict bytes too_deep a_job h k = absurd (deep_column bytes k.1.column h k.1.read_as)
-one_verdict bytes bad_layout too_long h k = absurd (omega (arith, k, h.1.read_as.short))
-one_verdict bytes bad_layout bad_text h k = absurd (unread bytes h.1.value h.1.read_as k)
-one_verdict bytes bad_layout bad_job h k = absurd (no_column bytes h.0 k h.1)
-one_verdict bytes bad_layout too_deep h k = absurd (deep_column bytes h.0 k h.1)
-one_verdict bytes bad_layout bad_layout h k = refl
-one_verdict bytes bad_layout overflows h k = absurd (job_sound bytes k.0 k.1 h)
-one_verdict bytes bad_layout a_job h k = absurd (job_sound bytes k.0 k.1 h)
-one_verdict bytes overflows too_long h k = absurd (omega (arith, k, h.1.read_as.read_as.short))
-one_verdict bytes overflows bad_text h k = absurd (unread bytes h.1.read_as.value h.1.read_as.read_as k)
-one_verdict bytes overflows bad_job h k = absurd (no_column bytes h.1.column k h.1.read_as)
-one_verdict bytes overflows too_deep h k = absurd (deep_column bytes h.1.column k h.1.read_as)
-one_verdict bytes overflows bad_layout h k = absurd (job_sound bytes h.0 h.1 k)
-one_verdict bytes overflows overflows h k = refl
-one_verdict bytes overflows a_job h k = absurd (h.2 (subst (λ l. Fits (canonical_of l)) (one_layout bytes k.0 h.0 k.1 h.1) k.2))
-one_verdict bytes a_job too_long h k = absurd (omega (arith, k, h.1.read_as.read_as.short))
-one_verdict bytes a_job bad_text h k = absurd (unread bytes h.1.read_as.value h.1.read_as.read_as k)
-one_verdict bytes a_job bad_job h k = absurd (no_column bytes h.1.column k h.1.read_as)
-one_verdict bytes a_job too_deep h k = absurd (deep_column bytes h.1.column k h.1.read_as)
-one_verdict bytes a_job bad_layout h k = absurd (job_sound bytes h.0 h.1 k)
-one_verdict bytes a_job overflows h k = absurd (k.2 (subst (λ l. Fits (canonical_of l)) (one_layout bytes h.0 k.0 h.1 k.1) h.2))
-one_verdict bytes a_job a_job h k = refl
+job_sound : (command : Command) (bytes : List ℕ) (i : ℕ) (k : Job) → IsOf command (bad_layout i) bytes → IsJob command bytes k → ⊥
+job_sound command bytes i k h g =
+    bad_sound i k.columns (subst (λ j. IsFirstBad i j.columns) (same_job command bytes h.0 k h.1 g.in_grammar) h.2) g.sound
+
+same_bad : (command : Command) (bytes : List ℕ) (i k : ℕ) → IsOf command (bad_layout i) bytes → IsOf command (bad_layout k) bytes → i ≡ k
+same_bad command bytes i k h g = one_first i k g.0.columns (subst (λ j. IsFirstBad i j.columns) (same_job command bytes h.0 g.0 h.1 g.1) h.2) g.2
+
+of_job : (command : Command) (a b : Verdict) (j : Job) → IsOfJob a command j → IsOfJob b command j → a ≡ b
+of_job Canon too_long b j h k = absurd h
+of_job Canon bad_text b j h k = absurd h
+of_job Canon bad_job b j h k = absurd h
+of_job Canon too_deep b j h k = absurd h
+of_job Canon (bad_layout i) b j h k = absurd h
+of_job Canon not_canonical b j h k = absurd h
+of_job Canon overflows too_long j h k = absurd k
+of_job Canon overflows bad_text j h k = absurd k
+of_job Canon overflows bad_job j h k = absurd k
+of_job Canon overflows too_deep j h k = absurd k
+of_job Canon overflows (bad_layout i) j h k = absurd k
+of_job Canon overflows not_canonical j h k = absurd k
+of_job Canon answered too_long j h k = absurd k
+of_job Canon answered bad_text j h k = absurd k
+of_job Canon answered bad_job j h k = absurd k
+of_job Canon answered too_deep j h k = absurd k
+of_job Canon answered (bad_layout i) j h k = absurd k
+of_job Canon answered not_canonical j h k = absurd k
+of_job Canon overflows overflows j h k = refl
+of_job Canon overflows answered j h k = absurd (h k)
+of_job Canon answered overflows j h k = absurd (k h)
+of_job Canon answered answered j h k = refl
+of_job Check too_long b j h k = absurd h
+of_job Check bad_text b j h k = absurd h
+of_job Check bad_job b j h k = absurd h
+of_job Check too_deep b j h k = absurd h
+of_job Check (bad_layout i) b j h k = absurd h
+of_job Check overflows b j h k = absurd h
+of_job Check not_canonical too_long j h k = absurd k
+of_job Check not_canonical bad_text j h k = absurd k
+of_job Check not_canonical bad_job j h k = absurd k
+of_job Check not_canonical too_deep j h k = absurd k
+of_job Check not_canonical (bad_layout i) j h k = absurd k
+of_job Check not_canonical overflows j h k = absurd k
+of_job Check answered too_long j h k = absurd k
+of_job Check answered bad_text j h k = absurd k
+of_job Check answered bad_job j h k = absurd k
+of_job Check answered too_deep j h k = absurd k
+of_job Check answered (bad_layout i) j h k = absurd k
+of_job Check answered overflows j h k = absurd k
+of_job Check not_canonical not_canonical j h k = refl
+of_job Check not_canonical answered j h k = absurd (h k)
+of_job Check answered not_canonical j h k = absurd (k h)
+of_job Check answered answered j h k = refl
+
+two_of_job : (command : Command) (bytes : List ℕ) (a b : Verdict) → ((j : Job) × IsJob command bytes j × IsOfJob a command j) → ((j : Job) × IsJob command bytes j × IsOfJob b command j) → a ≡ b
+two_of_job command bytes a b h k = of_job command a b k.0 (subst (IsOfJob a command) (same_job command bytes h.0 k.0 h.1.in_grammar k.1.in_grammar) h.2) k.2
+
+pub one_verdict : (command : Command) (bytes : List ℕ) (a b : Verdict) → IsOf command a bytes → IsOf command b bytes → a ≡ b
+one_verdict c bytes too_long too_long h k = refl
+one_verdict c bytes too_long bad_text h k = absurd (omega (arith, h, k.0))
+one_verdict c bytes too_long bad_job h k = absurd (omega (arith, h, k.1.short))
+one_verdict c bytes too_long too_deep h k = absurd (omega (arith, h, k.2.short))
+one_verdict c bytes too_long (bad_layout k0) h k = absurd (omega (arith, h, k.1.read_as.short))
+one_verdict c bytes too_long not_canonical h k = absurd (omega (arith, h, k.1.in_grammar.read_as.short))
+one_verdict c bytes too_long overflows h k = absurd (omega (arith, h, k.1.in_grammar.read_as.short))
+one_verdict c bytes too_long answered h k = absurd (omega (arith, h, k.1.in_grammar.read_as.short))
+one_verdict c bytes bad_text too_long h k = absurd (omega (arith, k, h.0))
+one_verdict c bytes bad_text bad_text h k = refl
+one_verdict c bytes bad_text bad_job h k = absurd (bad_unread c bytes k.0 k.1 h)
+one_verdict c bytes bad_text too_deep h k = absurd (bad_unread c bytes k.0 k.2 h)
+one_verdict c bytes bad_text (bad_layout k0) h k = absurd (bad_unread c bytes k.1.value k.1.read_as h)
+one_verdict c bytes bad_text not_canonical h k = absurd (bad_unread c bytes k.1.in_grammar.value k.1.in_grammar.read_as h)
+one_verdict c bytes bad_text overflows h k = absurd (bad_unread c bytes k.1.in_grammar.value k.1.in_grammar.read_as h)
+one_verdict c bytes bad_text answered h k = absurd (bad_unread c bytes k.1.in_grammar.value k.1.in_grammar.read_as h)
+one_verdict c bytes bad_job too_long h k = absurd (omega (arith, k, h.1.short))
+one_verdict c bytes bad_job bad_text h k = absurd (bad_unread c bytes h.0 h.1 k)
+one_verdict c bytes bad_job bad_job h k = refl
+one_verdict c bytes bad_job too_deep h k = absurd (no_job c bytes k.0 k.1 h k.2 k.3)
+one_verdict c bytes bad_job (bad_layout k0) h k = absurd (no_job c bytes k.1.value k.0 h k.1.read_as k.1.is_job)
+one_verdict c bytes bad_job not_canonical h k = absurd (no_job c bytes k.1.in_grammar.value k.0 h k.1.in_grammar.read_as k.1.in_grammar.is_job)
+one_verdict c bytes bad_job overflows h k = absurd (no_job c bytes k.1.in_grammar.value k.0 h k.1.in_grammar.read_as k.1.in_grammar.is_job)
+one_verdict c bytes bad_job answered h k = absurd (no_job c bytes k.1.in_grammar.value k.0 h k.1.in_grammar.read_as k.1.in_grammar.is_job)
+one_verdict c bytes too_deep too_long h k = absurd (omega (arith, k, h.2.short))
+one_verdict c bytes too_deep bad_text h k = absurd (bad_unread c bytes h.0 h.2 k)
+one_verdict c bytes too_deep bad_job h k = absurd (no_job c bytes h.0 h.1 k h.2 h.3)
+one_verdict c bytes too_deep too_deep h k = refl
+one_verdict c bytes too_deep (bad_layout k0) h k = absurd (deep_job c bytes k.0 h k.1)
+one_verdict c bytes too_deep not_canonical h k = absurd (deep_job c bytes k.0 h k.1.in_grammar)
+one_verdict c bytes too_deep overflows h k = absurd (deep_job c bytes k.0 h k.1.in_grammar)
+one_verdict c bytes too_deep answered h k = absurd (deep_job c bytes k.0 h k.1.in_grammar)
+one_verdict c bytes (bad_layout i) too_long h k = absurd (omega (arith, k, h.1.read_as.short))
+one_verdict c bytes (bad_layout i) bad_text h k = absurd (bad_unread c bytes h.1.value h.1.read_as k)
+one_verdict c bytes (bad_layout i) bad_job h k = absurd (no_job c bytes h.1.value h.0 k h.1.read_as h.1.is_job)
+one_verdict c bytes (bad_layout i) too_deep h k = absurd (deep_job c bytes h.0 k h.1)
+one_verdict c bytes (bad_layout i) (bad_layout k0) h k = ap bad_layout (same_bad c bytes i k0 h k)
+one_verdict c bytes (bad_layout i) not_canonical h k = absurd (job_sound c bytes i k.0 h k.1)
+one_verdict c bytes (bad_layout i) overflows h k = absurd (job_sound c bytes i k.0 h k.1)
+one_verdict c bytes (bad_layout i) answered h k = absurd (job_sound c bytes i k.0 h k.1)
+one_verdict c bytes not_canonical too_long h k = absurd (omega (arith, k, h.1.in_grammar.read_as.short))
+one_verdict c bytes not_canonical bad_text h k = absurd (bad_unread c bytes h.1.in_grammar.value h.1.in_grammar.read_as k)
+one_verdict c bytes not_canonical bad_job h k = absurd (no_job c bytes h.1.in_grammar.value h.0 k h.1.in_grammar.read_as h.1.in_grammar.is_job)
+one_verdict c bytes not_canonical too_deep h k = absurd (deep_job c bytes h.0 k h.1.in_grammar)
+one_verdict c bytes not_canonical (bad_layout k0) h k = absurd (job_sound c bytes k0 h.0 k h.1)
+one_verdict c bytes not_canonical not_canonical h k = two_of_job c bytes not_canonical not_canonical h k
+one_verdict c bytes not_canonical overflows h k = two_of_job c bytes not_canonical overflows h k
+one_verdict c bytes not_canonical answered h k = two_of_job c bytes not_canonical answered h k
+one_verdict c bytes overflows too_long h k = absurd (omega (arith, k, h.1.in_grammar.read_as.short))
+one_verdict c bytes overflows bad_text h k = absurd (bad_unread c bytes h.1.in_grammar.value h.1.in_grammar.read_as k)
+one_verdict c bytes overflows bad_job h k = absurd (no_job c bytes h.1.in_grammar.value h.0 k h.1.in_grammar.read_as h.1.in_grammar.is_job)
+one_verdict c bytes overflows too_deep h k = absurd (deep_job c bytes h.0 k h.1.in_grammar)
+one_verdict c bytes overflows (bad_layout k0) h k = absurd (job_sound c bytes k0 h.0 k h.1)
+one_verdict c bytes overflows not_canonical h k = two_of_job c bytes overflows not_canonical h k
+one_verdict c bytes overflows overflows h k = two_of_job c bytes overflows overflows h k
+one_verdict c bytes overflows answered h k = two_of_job c bytes overflows answered h k
+one_verdict c bytes answered too_long h k = absurd (omega (arith, k, h.1.in_grammar.read_as.short))
+one_verdict c bytes answered bad_text h k = absurd (bad_unread c bytes h.1.in_grammar.value h.1.in_grammar.read_as k)
+one_verdict c bytes answered bad_job h k = absurd (no_job c bytes h.1.in_grammar.value h.0 k h.1.in_grammar.read_as h.1.in_grammar.is_job)
+one_verdict c bytes answered too_deep h k = absurd (deep_job c bytes h.0 k h.1.in_grammar)
+one_verdict c bytes answered (bad_layout k0) h k = absurd (job_sound c bytes k0 h.0 k h.1)
+one_verdict c bytes answered not_canonical h k = two_of_job c bytes answered not_canonical h k
+one_verdict c bytes answered overflows h k = two_of_job c bytes answered overflows h k
+one_verdict c bytes answered answered h k = two_of_job c bytes answered answered h k
+
+-- bytes with another verdict are no job that has an answer
+pub no_answer : (command : Command) (bytes : List ℕ) (v : Verdict) → IsOf command v bytes → (v ≡ answered → ⊥) → (j : Job) → IsJob command bytes j → HasAnswer command j → ⊥
+no_answer command bytes v h other j job answer = other (one_verdict command bytes v answered h (j, job, answer))
 
 -- more than n bytes taken are more than n fewer left
 pub took_more : (n : ℕ) (before after : Option (List ℕ)) (bytes : List ℕ) → Consumes before after bytes → n < length bytes → TookMore n before after

@@ -1,6 +1,8 @@
+pub mod Answered
 pub mod Columns
 pub mod Depths
 pub mod Equal
 pub mod Jobs
 pub mod JobTexts
 pub mod Readings
+pub mod Refused

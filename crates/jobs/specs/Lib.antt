@@ -1,4 +1,5 @@
 pub mod Causes
+pub mod Commands
 pub mod Job
 pub mod Laws
 pub mod Memory

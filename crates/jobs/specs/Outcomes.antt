@@ -1,8 +1,8 @@
 -- The text, the status and the verdict of each outcome.
 use Rattle.std.specs.Prelude.{◌≡◌, ◌⊎◌, ℕ, List, codes, Option, Some, None}
 use Rattle.jobs.specs.declared.outcome.Outcome.{Outcome}
-use Rattle.jobs.specs.declared.outcome.Outcome.TheVariants.{Done, Usage, BadText, BadJob, BadLayout, TooLong, TooDeep, Overflow, ReadFault, WriteFault, OutOfMemory}
-use Rattle.jobs.specs.Job.{Verdict, too_long, bad_text, bad_job, too_deep, bad_layout, overflows, a_job}
+use Rattle.jobs.specs.declared.outcome.Outcome.TheVariants.{Done, Usage, BadText, BadJob, BadLayout, TooLong, TooDeep, NotCanonical, Overflow, ReadFault, WriteFault, OutOfMemory}
+use Rattle.jobs.specs.Job.{Verdict, too_long, bad_text, bad_job, too_deep, bad_layout, not_canonical, overflows, answered}
 
 abbrev pub text_of : Outcome → List ℕ
 text_of Done = codes "done"
@@ -12,6 +12,7 @@ text_of BadJob = codes "bad job"
 text_of (BadLayout i) = codes "bad layout"
 text_of TooLong = codes "too long"
 text_of TooDeep = codes "too deep"
+text_of NotCanonical = codes "not canonical"
 text_of Overflow = codes "overflow"
 text_of ReadFault = codes "read fault"
 text_of WriteFault = codes "write fault"
@@ -30,6 +31,7 @@ status_of BadJob = 4
 status_of (BadLayout i) = 5
 status_of TooLong = 6
 status_of TooDeep = 7
+status_of NotCanonical = 8
 status_of Overflow = 15
 status_of ReadFault = 20
 status_of WriteFault = 21
@@ -41,13 +43,14 @@ IsStatus status = (status ≡ 1) ⊎ ((outcome : Outcome) × (status ≡ status_
 
 -- what an outcome says of the bytes, where it says something
 abbrev pub verdict_of : Outcome → Option Verdict
-verdict_of Done = Some a_job
-verdict_of WriteFault = Some a_job
+verdict_of Done = Some answered
+verdict_of WriteFault = Some answered
 verdict_of TooLong = Some too_long
 verdict_of TooDeep = Some too_deep
 verdict_of BadText = Some bad_text
 verdict_of BadJob = Some bad_job
-verdict_of (BadLayout i) = Some bad_layout
+verdict_of (BadLayout i) = Some (bad_layout i)
+verdict_of NotCanonical = Some not_canonical
 verdict_of Overflow = Some overflows
 verdict_of Usage = None
 verdict_of ReadFault = None

@@ -1,5 +1,5 @@
 //! What holds of all columns that the program reads and writes.
-ghost use Rattle.std.specs.Prelude.{◌≡◌, ◌↔◌, ◌≤◌, ℕ, List, [], ◌∷◌, ◌++◌, Some, None};
+ghost use Rattle.std.specs.Prelude.{◌≡◌, ◌↔◌, ◌≤◌, ℕ, List, [], ◌∷◌, ◌++◌, Some, codes};
 ghost use Rattle.serde_json.specs.Data.{Data, depth};
 ghost use Rattle.serde_json.specs.Written.{compact_text};
 ghost use Rattle.arrow_types.specs.TypeData.{TypeData};
@@ -10,14 +10,16 @@ ghost use Rattle.arrow_flat.specs.Slots.{Slot};
 ghost use Rattle.arrow_layout.specs.Fits.{Fits};
 ghost use Rattle.arrow_layout.specs.Layouts.{Layout, type_of};
 ghost use Rattle.arrow_layout.specs.Denote.{denote};
-ghost use Rattle.arrow_canon.specs.Canonical.{canonical_of};
 ghost use Rattle.arrow_layout.specs.Plain.{IsPlain};
 ghost use Rattle.arrow_layout.specs.SlotsOf.{HasSlots};
 ghost use Rattle.arrow_layout.specs.Canon.{canon};
 ghost use Rattle.column_grammar.specs.Laws.{IsWritable};
-ghost use Rattle.column_grammar.specs.Reads.{column_of};
+ghost use Rattle.column_grammar.specs.Reads.{Column, IsValidColumn, column_of, selected_layout};
 ghost use Rattle.column_grammar.specs.Writes.{column_text, column_value};
-ghost use Rattle.jobs.specs.Job.{reading, Verdict, IsJob, IsOf, canon_text};
+ghost use Rattle.jobs.specs.Commands.{command_of};
+ghost use Rattle.jobs.specs.Job.{HasAnswer, IsJob, IsOf, Job, Verdict, answer_text, job_slots, job_type, reading, whole_of};
+ghost use Rattle.jobs.specs.declared.command.Command.{Command};
+ghost use Rattle.jobs.specs.declared.command.Command.TheVariants.{Canon, Check};
 ghost use Rattle.jobs.specs.Laws.{IsTaken};
 
 /// The texts of two canonical columns are equal exactly when their types and their slots are.
@@ -27,17 +29,32 @@ pub fn texts_tell_columns()
         → (column_text (canon t s) ≡ column_text (canon u r)) ↔ ((t ≡ u) × (s ≡ r)) }
 {}
 
-/// Two whole jobs whose canonical layouts fit are answered by one text exactly when their types and
-/// their slots are equal.
+/// Two whole jobs that `canon` answers are answered by one text exactly when their types and the
+/// slots that they take are equal.
 pub fn texts_tell_jobs()
-    ensures { (a b : List ℕ) (l m : Layout) → IsJob a l → IsJob b m
-        → Fits (canonical_of l) → Fits (canonical_of m)
-        → (canon_text l ≡ canon_text m) ↔ ((type_of l ≡ type_of m) × (denote l ≡ denote m)) }
+    ensures { (a b : List ℕ) (j k : Job) → IsJob Canon a j → IsJob Canon b k
+        → HasAnswer Canon j → HasAnswer Canon k
+        → (answer_text Canon j ≡ answer_text Canon k)
+        ↔ ((job_type j ≡ job_type k) × (job_slots j ≡ job_slots k)) }
 {}
 
-/// Bytes have one verdict: a job, or one cause for which they are none.
+/// A job of one column takes all slots that the column selects.
+pub fn one_column_is_taken_whole()
+    ensures of_type { (k : Column) → job_type (whole_of k) ≡ type_of (selected_layout k) }
+    ensures slots { (k : Column) → IsValidColumn k
+        → job_slots (whole_of k) ≡ denote (selected_layout k) }
+{}
+
+/// A command's words are one, and no other command's.
+pub fn words_of_commands()
+    ensures canon { command_of (codes "canon" ∷ []) ≡ Some Canon }
+    ensures check { command_of (codes "check" ∷ []) ≡ Some Check }
+{}
+
+/// Bytes have one verdict of a command: an answer, or one cause for which they have none.
 pub fn one_verdict()
-    ensures { (bytes : List ℕ) (a b : Verdict) → IsOf a bytes → IsOf b bytes → a ≡ b }
+    ensures { (c : Command) (bytes : List ℕ) (a b : Verdict) → IsOf c a bytes → IsOf c b bytes
+        → a ≡ b }
 {}
 
 /// The text of a well-formed column of the grammar has a reading, and the reading is that column

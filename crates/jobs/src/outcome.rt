@@ -18,11 +18,13 @@ pub enum Outcome {
     TooLong,
     /// The type of a column is deeper than 32 levels.
     TooDeep,
+    /// The column isn't canonical.
+    NotCanonical,
     /// A count or an offset of the answer passes its range.
     Overflow,
     /// The source failed.
     ReadFault,
-    /// The sink failed; it holds a front of the output.
+    /// The sink failed; it holds a prefix of the output.
     WriteFault,
     /// Memory ran out; nothing is written.
     OutOfMemory,
@@ -42,6 +44,7 @@ pub fn outcome_text(outcome: &Outcome) -> &str
         Outcome::BadLayout(_) => "bad layout",
         Outcome::TooLong => "too long",
         Outcome::TooDeep => "too deep",
+        Outcome::NotCanonical => "not canonical",
         Outcome::Overflow => "overflow",
         Outcome::ReadFault => "read fault",
         Outcome::WriteFault => "write fault",
@@ -72,6 +75,7 @@ pub fn status(outcome: &Outcome) -> u8
         Outcome::BadLayout(_) => 5,
         Outcome::TooLong => 6,
         Outcome::TooDeep => 7,
+        Outcome::NotCanonical => 8,
         Outcome::Overflow => 15,
         Outcome::ReadFault => 20,
         Outcome::WriteFault => 21,

@@ -3,8 +3,8 @@ ghost use Rattle.std.specs.Prelude.{◌≡◌};
 ghost use Rattle.std.specs.Process.{exit_status};
 ghost use Rattle.jobs.specs.Outcomes.{status_of, IsStatus};
 
-use crate::job::run;
 use crate::outcome::{Outcome, message, status};
+use crate::runs::run;
 use crate::standard::{StdSink, StdSource};
 use std::process::ExitCode;
 use std::rt::Env;

@@ -4,7 +4,7 @@ use jobs::{MemorySink, MemorySource, Outcome, PlainSink, PlainSource, Sink, Sour
 use std::alloc::Global;
 
 /// A job, how its run ends, and the line that it writes, if any.
-type Row = (&'static str, Outcome, &'static str);
+pub(crate) type Row = (&'static str, Outcome, &'static str);
 
 const NULL_IN_THE_MIDDLE: &str = r#"{"data":{"mask":"101","values":[1,7,3]},"type":"int32"}"#;
 
@@ -49,7 +49,7 @@ fn run_from(
     writes: &[usize],
     held: &mut Vec<u8>,
 ) -> Mem<Outcome> {
-    let mut sink = MemorySink::new(alloc, 256, 8, writes)?;
+    let mut sink = MemorySink::new(alloc, 1024, 8, writes)?;
     let outcome = outcome_of(alloc, words, source, &mut sink);
     let appended = held.extend_from_slice(sink.held());
     drop(sink);
@@ -71,19 +71,19 @@ fn run_over(
     outcome
 }
 
-/// Whether a job ends and writes as its row says.
-fn is_so(alloc: Global, row: &Row) -> Mem<bool> {
+/// Whether a job of a command ends and writes as its row says.
+fn is_so(alloc: Global, command: &str, row: &Row) -> Mem<bool> {
     let mut held = Vec::new(alloc);
-    let outcome = run_over(alloc, &["canon"], row.0, (&[], &[]), &mut held);
+    let outcome = run_over(alloc, &[command], row.0, (&[], &[]), &mut held);
     let is_written = is_line(held.as_slice(), row.2);
     drop(held);
     Ok(outcome? == row.1 && is_written)
 }
 
-/// The first job that doesn't end and write as its row says.
-fn first_wrong(alloc: Global, rows: &[Row]) -> Option<&'static str> {
+/// The first job of a command that doesn't end and write as its row says.
+pub(crate) fn first_wrong(alloc: Global, command: &str, rows: &[Row]) -> Option<&'static str> {
     for row in rows {
-        if !matches!(is_so(alloc, row), Ok(true)) {
+        if !matches!(is_so(alloc, command, row), Ok(true)) {
             return Some(row.0);
         }
     }
@@ -94,6 +94,7 @@ fn first_wrong(alloc: Global, rows: &[Row]) -> Option<&'static str> {
 fn each_input_has_its_outcome(rt: HostRuntime) {
     let wrong = first_wrong(
         rt.alloc(),
+        "canon",
         &[
             (NULL_IN_THE_MIDDLE, Outcome::Done, ZERO_IN_THE_MIDDLE),
             (
@@ -183,6 +184,7 @@ fn each_input_has_its_outcome(rt: HostRuntime) {
 fn each_flat_layout_has_its_outcome(rt: HostRuntime) {
     let wrong = first_wrong(
         rt.alloc(),
+        "canon",
         &[
             (
                 r#"{"data":{"mask":null,"values":"110100111"},"slice":[3,5],"type":"boolean"}"#,
@@ -399,6 +401,45 @@ fn each_flat_layout_has_its_outcome(rt: HostRuntime) {
     assert!(rt; wrong.is_none(), "{wrong:?}");
 }
 
+#[test]
+fn each_column_is_canonical_or_not(rt: HostRuntime) {
+    let wrong = first_wrong(
+        rt.alloc(),
+        "check",
+        &[
+            (NULL_IN_THE_MIDDLE, Outcome::NotCanonical, ""),
+            (ZERO_IN_THE_MIDDLE, Outcome::Done, ""),
+            (
+                r#"{"data":{"mask":"11","values":[1,2]},"type":"int32"}"#,
+                Outcome::NotCanonical,
+                "",
+            ),
+            (
+                r#"{"data":{"mask":null,"values":"110"},"slice":[1,2],"type":"boolean"}"#,
+                Outcome::NotCanonical,
+                "",
+            ),
+            (
+                r#"{"data":{"mask":null,"values":[1,1,0]},"slice":[1,2],"type":"int32"}"#,
+                Outcome::Done,
+                "",
+            ),
+            (
+                r#"{"data":{"mask":"10","values":[1]},"type":"int32"}"#,
+                Outcome::BadLayout(0),
+                "",
+            ),
+            (
+                r#"{"data":{"mask":null,"values":[1.5]},"type":"int32"}"#,
+                Outcome::BadJob,
+                "",
+            ),
+            (r#"{"data":"#, Outcome::BadText, ""),
+        ],
+    );
+    assert!(rt; wrong.is_none(), "{wrong:?}");
+}
+
 /// How `canon` of these bytes ends over sources and sinks that don't fail. What the sink holds is
 /// appended.
 fn plain_run(alloc: Global, input: Vec<u8>, room: usize, held: &mut Vec<u8>) -> Mem<Outcome> {
@@ -525,7 +566,7 @@ fn faulty(
 
 #[test]
 fn other_words_read_nothing(rt: HostRuntime) -> Mem<()> {
-    let wordings: [&[&str]; 3] = [&[], &["gather"], &["canon", "x"]];
+    let wordings: [&[&str]; 4] = [&[], &["gather"], &["canon", "x"], &["check", "canon"]];
     for words in wordings {
         assert!(rt; faulty(rt.alloc(), words, (&[1], &[1]), b"")? == (Outcome::Usage, true));
     }

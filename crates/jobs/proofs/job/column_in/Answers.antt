@@ -1,15 +1,30 @@
+use Rattle.std.proofs.Common.{ap, arith}
+use Rattle.std.specs.Prelude.{option_map}
 use Rattle.serde_json.specs.View.{view}
 use Rattle.arrow_types.specs.Seen.{seen}
 use Rattle.column_read.specs.Parts.{column_seen}
-use Rattle.jobs.proofs.Columns.{read_deeper}
+use Rattle.jobs.specs.Job.{whole_of}
+use Rattle.jobs.proofs.Columns.{read_deeper, read_within}
 use Rattle.jobs.proofs.job.column_in.Goals as goal
 
 pub returns-then-not-is_within-clause-bad : goal.returns-then-not-is_within-clause-bad
-returns-then-not-is_within-clause-bad c =
-    let column = c.in-Ok.column in (
+returns-then-not-is_within-clause-bad c = λ command.
+    let column = c.in-Ok.column in
+    let deep = read_deeper (seen column.dtype) column.«data» c.is_within.result 32 c.is_within.ensures c.if-not-is_within.true in (
       view c.in_ok-value.value,
-      column_seen column,
+      whole_of (column_seen column),
       record { short = c.requires; is_read = c.in_ok-value.ensures.ok },
-      c.in-Ok.ensures.read,
-      read_deeper (seen column.dtype) column.«data» c.is_within.result 32 c.is_within.ensures c.if-not-is_within.true,
+      ap (option_map whole_of) c.in-Ok.ensures.read,
+      λ shallow. omega (arith, deep, shallow.0),
     )
+
+pub returns-clause-ok : goal.returns-clause-ok
+returns-clause-ok c = λ command.
+    let column = c.in-Ok.column in
+    let shallow = read_within (seen column.dtype) column.«data» c.is_within.result 32 c.is_within.ensures c.if-not-is_within.false in
+    record {
+      value = view c.in_ok-value.value;
+      read_as = record { short = c.requires; is_read = c.in_ok-value.ensures.ok };
+      is_job = ap (option_map whole_of) c.in-Ok.ensures.read;
+      shallow = (shallow, tt);
+    }

@@ -21,6 +21,7 @@ loop-done-preserved g c =
     let h = c.in_ok-count.ensures in
     let old = c.loop-done.invariant in
     record {
+      none = λ e. absurd (omega (arith, c.loop-done-test.true, ap length e));
       within = part_fits c.args.bytes.now c.loop-done.done c.in_ok-count.count old.within h.some.0;
       later = omega (arith, h.cause.later, old.later);
       held = subst (Appends (g.K.Sink.held c.args.sink.now) (g.K.Sink.held c.write.new.self)) (two_parts c.args.bytes.now c.loop-done.done c.in_ok-count.count)

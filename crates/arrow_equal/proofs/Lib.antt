@@ -1,0 +1,4 @@
+pub mod Chosen
+pub mod OtherKinds
+pub mod Ranges
+pub mod Slots

@@ -1,0 +1,10 @@
+pub mod BitValues
+pub mod Copies
+pub mod Counts
+pub mod Growths
+pub mod Making
+pub mod Numbers
+pub mod Rooms
+pub mod SourceSlots
+pub mod Stands
+pub mod Steps

@@ -1,0 +1,5 @@
+pub mod Grown
+pub mod Kinds
+pub mod Masks
+pub mod Tidy
+pub mod Values

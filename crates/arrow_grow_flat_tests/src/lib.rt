@@ -1,0 +1,5 @@
+//! What no clause of arrow_grow_flat says.
+#![tactic(auto)]
+
+#[cfg(test)]
+mod flat;
