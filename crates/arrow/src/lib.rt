@@ -159,6 +159,6 @@ pub mod canon {
 /// Types and columns as JSON.
 pub mod json {
     pub use column_json::{column_json, column_text};
-    pub use column_read::{Column, ColumnData, LayoutError};
+    pub use column_read::{Column, LayoutError};
     pub use type_json::{JsonError, type_from_json, type_json};
 }

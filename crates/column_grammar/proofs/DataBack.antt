@@ -61,7 +61,7 @@ offset_wide : (large : Bool) → 2 ^ offset_bits large ≤ 2 ^ 63
 offset_wide true = omega arith
 offset_wide false = omega arith
 
-offset_back : (large : Bool) (limit : ℕ) → limit ≡ 2 ^ offset_bits large → (z : ℤ) → IsBelow limit z → signed_in (offset_bits large) (integer_value z) ≡ Some z
+pub offset_back : (large : Bool) (limit : ℕ) → limit ≡ 2 ^ offset_bits large → (z : ℤ) → IsBelow limit z → signed_in (offset_bits large) (integer_value z) ≡ Some z
 offset_back large limit e z h = signed_back (offset_bits large) z (offset_wide large) (offset_range large limit z e h)
 
 -- ---- views

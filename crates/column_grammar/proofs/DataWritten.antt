@@ -26,7 +26,7 @@ use Rattle.arrow_flat.specs.Views.{View, inline, long, IsView}
 use Rattle.type_json.proofs.Utf8.{one}
 use Rattle.type_json.proofs.Written.{IsWritten, AreWritten, null_written, string_written, whole_written, none_written, item_written, array_written}
 use Rattle.column_grammar.specs.Values.{bit_char, bits_value, mask_value, bytes_value, integer_value, list_value, first_integer, number_value}
-use Rattle.column_grammar.specs.Writes.{object2, object3, view_value}
+use Rattle.column_grammar.specs.Writes.{object1, object2, object3, view_value}
 
 -- ---- what is written, and how deep it nests
 
@@ -93,8 +93,8 @@ item_in n d ds h hs = let first = h.shallow in let rest = hs.1 in (item_written 
 none_in : (n : ℕ) → AreWritten (items_of []) × (items_depth (items_of []) ≤ n)
 none_in n = (none_written, omega arith)
 
-list_in : (n : ℕ) (ds : List Data) → AreWritten (items_of ds) × (items_depth (items_of ds) ≤ n) → IsWrittenIn (suc n) (list_value ds)
-list_in n ds h = let flat = h.1 in record { written = array_written (items_of ds) h.0; shallow = omega (arith, flat) }
+pub items_in_list : (n : ℕ) (ds : List Data) → AreWritten (items_of ds) × (items_depth (items_of ds) ≤ n) → IsWrittenIn (suc n) (list_value ds)
+items_in_list n ds h = let flat = h.1 in record { written = array_written (items_of ds) h.0; shallow = omega (arith, flat) }
 
 module _ {A : Type 0} (n : ℕ) (g : A → Data) (P : A → Type 0) (each : (x : A) → P x → IsWrittenIn n (g x)) where
   each_written : (xs : List A) → AllByRecursion P xs → AreWritten (items_of (map g xs)) × (items_depth (items_of (map g xs)) ≤ n)
@@ -102,7 +102,7 @@ module _ {A : Type 0} (n : ℕ) (g : A → Data) (P : A → Type 0) (each : (x :
   each_written (x ∷ xs) h = item_in n (g x) (map g xs) (each x h.0) (each_written xs h.1)
 
   pub list_written : (xs : List A) → AllByRecursion P xs → IsWrittenIn (suc n) (list_value (map g xs))
-  list_written xs h = list_in n (map g xs) (each_written xs h)
+  list_written xs h = items_in_list n (map g xs) (each_written xs h)
 
 -- ---- the numbers of a value
 
@@ -166,6 +166,19 @@ view_written buffers (long n p b o) h =
 
 both : (a b : Bool) → a ≡ false → b ≡ false → (a || b) ≡ false
 both a b h k = ap (λ x. x || b) h ∙ k
+
+pub object1_written : (n : ℕ) (k : List ℕ) (d : Data) → are_ascii k ≡ true → IsWrittenIn n d → IsWrittenIn (suc n) (object1 k d)
+object1_written n k d hk hd =
+    let a = hd.shallow in
+    record {
+      written = record {
+        no_float = both (has_float d) false hd.written.no_float refl;
+        sound = (tt, hd.written.sound, tt);
+        numbers = (hd.written.numbers, tt);
+        utf8 = (IsUtf8-are_ascii k hk, hd.written.utf8, tt);
+      };
+      shallow = omega (arith, a);
+    }
 
 pub object2_written : (n : ℕ) (k l : List ℕ) (d e : Data) → are_ascii k ≡ true → are_ascii l ≡ true → slice_cmp nat_cmp l k ≡ Greater
     → IsWrittenIn n d → IsWrittenIn n e → IsWrittenIn (suc n) (object2 k d l e)

@@ -1,7 +1,9 @@
+pub mod CanonicalPlain
 pub mod ColumnBack
 pub mod DataBack
+pub mod DataForms
 pub mod DataWritten
+pub mod LayoutBack
 pub mod NumbersBack
 pub mod Spelled
 pub mod TextBack
-pub mod Typed

@@ -1,20 +1,24 @@
 -- A column from a JSON value: `{"data":D,"type":T}`, with `"slice":[o,n]` beside them or not.
-use Rattle.std.specs.Prelude.{ℕ, ◌+◌, ◌/◌, ◌≤◌, ⊤, List, [], take, drop, replicate, get_or, length, Bool, ◌&&◌, nat_le, nat_lt, ℤ, cond, if◌then◌else◌, Option, Some, None, is_some, option_map, option_and_then, codes}
+use Rattle.std.specs.Prelude.{ℕ, ◌+◌, ◌/◌, ◌≤◌, ⊤, List, [], ◌∷◌, map, take, drop, replicate, get_or, length, Bool, true, false, ◌&&◌, nat_le, nat_lt, ℤ, cond, if◌then◌else◌, Option, Some, None, is_some, option_map, option_and_then, codes}
 use Rattle.std.specs.Option.{option_zip}
 use Rattle.serde_json.specs.Data.{Data}
-use Rattle.serde_json.specs.Find.{as_str}
+use Rattle.serde_json.specs.Find.{as_str, as_null}
 use Rattle.arrow_buffers.specs.Bits.{Bits}
 use Rattle.arrow_buffers.specs.Offsets.{to_nat}
-use Rattle.arrow_types.specs.TypeData.{TypeData}
+use Rattle.arrow_types.specs.TypeData.{TypeData, FieldList, no_fields, and_field}
+use Rattle.arrow_types.specs.TypeData as T
+use Rattle.arrow_types.specs.Types.{integer_type}
+use Rattle.arrow_types.specs.declared.datatype.IntegerType.{IntegerType}
 use Rattle.arrow_types.specs.declared.datatype.PrimitiveType.{PrimitiveType}
+use Rattle.arrow_types.specs.declared.datatype.PrimitiveType.TheVariants as primitive
 use Rattle.arrow_flat.specs.Views.{View, inline_view, long}
 use Rattle.type_json.specs.TypeJson.{type_in}
 use Rattle.type_json.specs.Values.{two_members, three_members, whole_in}
-use Rattle.arrow_layout.specs.Forms.{Form, booleans_of, primitives_of, binaries_of, fixed_size_binaries_of, views_of, form_of}
+use Rattle.arrow_layout.specs.Forms.{Form, nulls_of, booleans_of, primitives_of, binaries_of, fixed_size_binaries_of, views_of, lists_of, fixed_size_lists_of, structs_of, unions_of, dictionaries_of, form_of, primitive_by}
 use Rattle.arrow_layout.specs.Cut.{cut}
-use Rattle.arrow_layout.specs.Layouts.{Layout, booleans, primitives, binaries, fixed_size_binaries, views, length_of}
+use Rattle.arrow_layout.specs.Layouts.{Layout, nulls, booleans, primitives, binaries, fixed_size_binaries, views, lists, fixed_size_lists, structs, sparse_unions, dense_unions, dictionaries, Layouts, no_layouts, child, length_of, retyped}
 use Rattle.arrow_layout.specs.WellFormed.{WellFormed}
-use Rattle.column_grammar.specs.Values.{bits_in_json, mask_in, bytes_in, signed_in, unsigned_in, number_in, triple_of, pair_of, items_in, list_in}
+use Rattle.column_grammar.specs.Values.{bits_in_json, mask_in, bytes_in, signed_in, unsigned_in, number_in, triple_of, pair_of, items_in, list_in, first_integer, one_member}
 
 -- ---- the data of each kind of layout
 
@@ -84,17 +88,99 @@ views_from t d = option_and_then (λ q. views_of_parts t d.1.1 q.1 q.0) (option_
 unfoldable pub views_in : TypeData → Data → Option Layout
 views_in t d = option_and_then (views_from t) (three_members (codes "buffers") (codes "mask") (codes "views") d)
 
--- the data of a column, by how its type is laid out
-abbrev pub data_by : Form → TypeData → Data → Option Layout
-data_by booleans_of t d = booleans_in t d
-data_by (primitives_of p) t d = primitives_in t p d
-data_by (binaries_of large text) t d = binaries_in t large d
-data_by (fixed_size_binaries_of k) t d = fixed_size_binaries_in t k d
-data_by (views_of text) t d = views_in t d
-data_by _ t d = None
+-- `{"length":n}`
+unfoldable pub nulls_in : TypeData → Data → Option Layout
+nulls_in t d = option_map (nulls t) (option_and_then whole_in (one_member (codes "length") d))
 
-abbrev pub data_in : TypeData → Data → Option Layout
-data_in t d = data_by (form_of t) t d
+-- the data of a column without children, by how its type is laid out
+abbrev pub flat_in : Form → TypeData → Data → Option Layout
+flat_in nulls_of t d = nulls_in t d
+flat_in booleans_of t d = booleans_in t d
+flat_in (primitives_of p) t d = primitives_in t p d
+flat_in (binaries_of large text) t d = binaries_in t large d
+flat_in (fixed_size_binaries_of k) t d = fixed_size_binaries_in t k d
+flat_in (views_of text) t d = views_in t d
+flat_in _ t d = None
+
+-- ---- the data of a layout over what is read of its children
+
+-- the mask and the offsets of a list
+abbrev pub lists_from : TypeData → Bool → Option Layout → Data × Data → Option Layout
+lists_from t large l d = option_map (λ q. lists t q.1.0 q.1.1 q.0) (option_zip l (option_zip (mask_in d.0) (list_in (signed_in (offset_bits large)) d.1)))
+
+-- the length and the mask of a list of one size
+abbrev pub fixed_size_lists_from : TypeData → ℕ → Option Layout → Data × Data → Option Layout
+fixed_size_lists_from t k l d = option_map (λ q. fixed_size_lists t q.1.1 k q.1.0 q.0) (option_zip l (option_zip (whole_in d.0) (mask_in d.1)))
+
+-- the length and the mask of a struct
+abbrev pub structs_from : TypeData → Option Layouts → Data × Data → Option Layout
+structs_from t ls d = option_map (λ q. structs t q.1.1 q.1.0 q.0) (option_zip ls (option_zip (whole_in d.0) (mask_in d.1)))
+
+-- null, or the offset of each slot
+unfoldable pub union_offsets_in : Data → Option (Option (List ℤ))
+union_offsets_in d = if is_some (as_null d) then Some None else option_map Some (list_in (signed_in 31) d)
+
+-- dense with offsets, sparse without
+abbrev pub union_of : TypeData → Layouts → Option (List ℤ) → List ℤ → Layout
+union_of t ls None ts = sparse_unions t 0 ts ls
+union_of t ls (Some os) ts = dense_unions t 0 ts os ls
+
+-- the numbers of values that have one each
+unfoldable pub singles_in : PrimitiveType → Data → Option (List ℤ)
+singles_in p d = option_map (map first_integer) (list_in (number_in p) d)
+
+-- the offsets and the type numbers of a union
+abbrev pub unions_from : TypeData → Option Layouts → Data × Data → Option Layout
+unions_from t ls d = option_map (λ q. union_of t q.0 q.1.0 q.1.1) (option_zip ls (option_zip (union_offsets_in d.0) (singles_in primitive.Int8 d.1)))
+
+-- the numbers of keys of a type
+abbrev pub keys_in : IntegerType → Data → Option (List ℤ)
+keys_in k d = singles_in (primitive_by (form_of (integer_type k))) d
+
+-- the keys and the mask of a dictionary
+abbrev pub dictionaries_from : TypeData → IntegerType → Data × Data → Option Layout → Option Layout
+dictionaries_from t k d l = option_map (λ q. dictionaries t (integer_type k) q.1.0 q.0 q.1.1) (option_zip (keys_in k d.0) (option_zip (mask_in d.1) l))
+
+-- What the data of a type are read as, one value for each field of a struct or a union:
+-- of a list or a map `{"child":D,"mask":M,"offsets":[n..]}`, of a list of one size `{"child":D,"length":n,"mask":M}`,
+-- of a struct `{"children":[D..],"length":n,"mask":M}`, of a union `{"children":[D..],"offsets":[n..] or null,"types":[n..]}`,
+-- of a dictionary `{"keys":[v..],"mask":M,"values":D}`, of an extension those of the type that it extends.
+abbrev mutual
+  pub data_in : TypeData → Data → Option Layout
+  data_in (T.list (T.field n u b m)) d =
+      option_and_then (λ p. lists_from (T.list (T.field n u b m)) false (data_in u p.0) p.1) (three_members (codes "child") (codes "mask") (codes "offsets") d)
+  data_in (T.large_list (T.field n u b m)) d =
+      option_and_then (λ p. lists_from (T.large_list (T.field n u b m)) true (data_in u p.0) p.1) (three_members (codes "child") (codes "mask") (codes "offsets") d)
+  data_in (T.map (T.field n u b m) o) d =
+      option_and_then (λ p. lists_from (T.map (T.field n u b m) o) false (data_in u p.0) p.1) (three_members (codes "child") (codes "mask") (codes "offsets") d)
+  data_in (T.fixed_size_list (T.field n u b m) k) d =
+      option_and_then (λ p. fixed_size_lists_from (T.fixed_size_list (T.field n u b m) k) k (data_in u p.0) p.1) (three_members (codes "child") (codes "length") (codes "mask") d)
+  data_in (T.struct fs) d =
+      option_and_then (λ p. structs_from (T.struct fs) (option_and_then (λ ds. children_in fs ds) (items_in p.0)) p.1) (three_members (codes "children") (codes "length") (codes "mask") d)
+  data_in (T.union fs ids mode) d =
+      option_and_then (λ p. unions_from (T.union fs ids mode) (option_and_then (λ ds. children_in fs ds) (items_in p.0)) p.1) (three_members (codes "children") (codes "offsets") (codes "types") d)
+  data_in (T.dictionary k u o) d =
+      option_and_then (λ p. dictionaries_from (T.dictionary k u o) k (p.0, p.1.0) (data_in u p.1.1)) (three_members (codes "keys") (codes "mask") (codes "values") d)
+  data_in (T.extension n u m) d = option_map (retyped (T.extension n u m)) (data_in u d)
+  data_in t d = flat_in (form_of t) t d
+
+  -- one value for each field
+  pub children_in : FieldList → List Data → Option Layouts
+  children_in no_fields [] = Some no_layouts
+  children_in no_fields (d ∷ ds) = None
+  children_in (and_field f fs) [] = None
+  children_in (and_field (T.field n u b m) fs) (d ∷ ds) = option_map (λ p. child p.0 p.1) (option_zip (data_in u d) (children_in fs ds))
+
+-- The same by how the type is laid out, whatever extensions are around it.
+abbrev pub data_by : Form → TypeData → Data → Option Layout
+data_by (lists_of large u) t d = option_and_then (λ p. lists_from t large (data_in u p.0) p.1) (three_members (codes "child") (codes "mask") (codes "offsets") d)
+data_by (fixed_size_lists_of k u) t d = option_and_then (λ p. fixed_size_lists_from t k (data_in u p.0) p.1) (three_members (codes "child") (codes "length") (codes "mask") d)
+data_by (structs_of fs) t d =
+    option_and_then (λ p. structs_from t (option_and_then (λ ds. children_in fs ds) (items_in p.0)) p.1) (three_members (codes "children") (codes "length") (codes "mask") d)
+data_by (unions_of mode ids fs) t d =
+    option_and_then (λ p. unions_from t (option_and_then (λ ds. children_in fs ds) (items_in p.0)) p.1) (three_members (codes "children") (codes "offsets") (codes "types") d)
+data_by (dictionaries_of k u) t d = option_and_then (λ p. dictionaries_from t k (p.0, p.1.0) (data_in u p.1.1)) (three_members (codes "keys") (codes "mask") (codes "values") d)
+data_by f t d = flat_in f t d
 
 -- ---- the column
 

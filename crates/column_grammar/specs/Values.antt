@@ -1,9 +1,10 @@
 -- What the data of a column is made of: bits, bytes in hexadecimal, and numbers in the ranges of their places.
-use Rattle.std.specs.Prelude.{ℕ, List, [], ◌∷◌, Bool, true, false, ◌==◌, ℤ, pos, negsuc, nat_lt, if◌then◌else◌, Option, Some, None, Result, Ok, Err, option_map, option_and_then, length, map, is_some}
+use Rattle.std.specs.Prelude.{ℕ, List, [], ◌∷◌, Bool, true, false, ◌==◌, ℤ, pos, negsuc, nat_lt, if◌then◌else◌, Option, Some, None, Result, Ok, Err, unwrap_or, option_map, option_and_then, length, map, is_some}
 use Rattle.std.specs.Int.{w128, cast_signed, cast_unsigned, from_be_bytes, to_be_bytes}
 use Rattle.std.specs.Option.{option_zip}
 use Rattle.serde_json.specs.Data.{Data, null, number, string, array}
-use Rattle.serde_json.specs.Find.{as_i64, as_u64, as_number, as_null, as_str, as_array, of_integer}
+use Rattle.serde_json.specs.Find.{as_i64, as_u64, as_number, as_null, as_str, as_array, as_object, get, of_integer}
+use Rattle.serde_json.specs.Events.{members_len}
 use Rattle.serde_json.specs.View.{items_of}
 use Rattle.hex.specs.Hex.{decode_of, encode_lower}
 use Rattle.hex.specs.declared.error.FromHexError.{FromHexError}
@@ -107,6 +108,10 @@ number_in primitive.UInt64 d = one (unsigned_in 64 d)
 number_in primitive.DaysMs d = option_and_then days_ms_of (option_and_then pair_of (items_in d))
 number_in primitive.MonthDayNano d = option_and_then month_day_nano_of (option_and_then triple_of (items_in d))
 number_in _ d = None
+
+-- the value at this key, of an object that has no other key
+abbrev pub one_member : List ℕ → Data → Option Data
+one_member k d = if unwrap_or (option_map members_len (as_object d)) 0 == 1 then get k d else None
 
 -- what f reads of each value of a list
 unfoldable pub list_in : {A : Type 0} → (Data → Option A) → Data → Option (List A)

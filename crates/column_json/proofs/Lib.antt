@@ -1,4 +1,5 @@
-pub mod NoFloat
 pub mod Octets
 pub mod Offsets
+pub mod Parts
+pub mod Tokens
 pub mod ViewParts

@@ -2,6 +2,8 @@
 #![tactic(auto)]
 
 mod native;
+mod nested;
+mod text;
 mod view;
 mod writer;
 

@@ -1,5 +1,5 @@
 //! Arrays by views to JSON values.
-ghost use Rattle.std.specs.Prelude.{◌≡◌, ◌<◌, ◌≤◌, [], ◌∷◌, map, pos, IfOk};
+ghost use Rattle.std.specs.Prelude.{◌≡◌, ◌<◌, ◌≤◌, [], ◌∷◌, length as count, map, pos, IfOk};
 ghost use Rattle.serde_json.specs.View.{view};
 ghost use Rattle.arrow_flat.specs.Natives.{octets};
 ghost use Rattle.arrow_flat.specs.Views.{view_length};
@@ -15,9 +15,10 @@ use serde_json::{Value, json};
 use std::alloc::Global;
 
 /// The value of at most twelve bytes that a view holds, without the zeros behind it.
-fn held(slot: &View) -> &[u8]
+pub(crate) fn held(slot: &View) -> &[u8]
     requires { view_length slot.now ≤ 12 }
-    ensures { bytes_value (octets result.now) ≡ view_value slot.now }
+    ensures value { bytes_value (octets result.now) ≡ view_value slot.now }
+    ensures few { count result.now ≤ 12 }
 {
     let length = slot.length() as usize;
     let value = &slot.as_bytes()[4..4 + length];

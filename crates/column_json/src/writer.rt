@@ -1,6 +1,7 @@
 //! Columns to JSON values and text.
-ghost use Rattle.std.specs.Prelude.{◌≡◌, [], ◌∷◌, map, pos, ◌≤ℤ◌, string_bytes, Some, IfOk};
+ghost use Rattle.std.specs.Prelude.{◌≡◌, [], ◌∷◌, ◌++◌, map, pos, ◌≤ℤ◌, string_bytes, Some, IfOk, OnOk};
 ghost use Rattle.serde_json.specs.View.{view};
+ghost use Rattle.json.specs.Print.{print};
 ghost use Rattle.hex.specs.Hex.{encode_lower};
 ghost use Rattle.arrow_buffers.specs.Bits.{Bits};
 ghost use Rattle.arrow_flat.specs.Natives.{octets};
@@ -9,14 +10,17 @@ ghost use Rattle.arrow_layout.specs.OfValues.{IsOfValues};
 ghost use Rattle.arrow_meaning.specs.Nodes.{boolean_layout, primitive_layout, binary_layout, fixed_size_binary_layout, primitive_node_layout, layout_of};
 ghost use Rattle.column_grammar.specs.Values.{bit_char, bits_value, mask_value, bytes_value, integer_value, list_value, number_value};
 ghost use Rattle.column_grammar.specs.Writes.{primitives_value, binaries_value, data_value, column_value, column_text};
+ghost use Rattle.column_json.specs.Puts.{column_start};
 
 use crate::native::JsonNative;
+use crate::nested::put_data;
 use crate::view::view_json;
 use arrow_buffers::{Bitmap, Offset, OffsetsBuffer};
 use arrow_bytes::{FixedSizeBinaryArray, OffsetArray};
 use arrow_flat::{BooleanArray, PrimitiveArray, ViewType};
 use arrow_meaning::{ArrayRef, Node, PrimitiveNode};
 use arrow_types::Mem;
+use json::Writer;
 use serde_json::{Value, json};
 use std::alloc::Global;
 use type_json::type_json;
@@ -29,13 +33,20 @@ fn bit_text(bit: bool) -> &'static str
 }
 
 /// Bits in slot order, as a text of `0` and `1`.
-fn bits_json(alloc: Global, bits: &Bitmap) -> Mem<Value>
-    ensures { IfOk result (λ v. view v ≡ bits_value bits.now) }
+pub(crate) fn bits_text(alloc: Global, bits: &Bitmap) -> Mem<String>
+    ensures { IfOk result (λ s. string_bytes s ≡ map bit_char bits.now.bits) }
 {
     let mut text = String::with_capacity(alloc, bits.len())?;
     for bit in bits.iter() {
         text.push_str(bit_text(bit))?;
     }
+    Ok(text)
+}
+
+fn bits_json(alloc: Global, bits: &Bitmap) -> Mem<Value>
+    ensures { IfOk result (λ v. view v ≡ bits_value bits.now) }
+{
+    let text = bits_text(alloc, bits)?;
     Ok(Value::String(text))
 }
 
@@ -50,7 +61,7 @@ pub(crate) fn mask_json(alloc: Global, mask: Option<&Bitmap>) -> Mem<Value>
 }
 
 /// Hexadecimal text in lower case, two digits a byte.
-fn bytes_text(alloc: Global, bytes: &[u8]) -> Mem<String>
+pub(crate) fn bytes_text(alloc: Global, bytes: &[u8]) -> Mem<String>
     ensures { IfOk result (λ s. string_bytes s ≡ encode_lower (octets bytes.now)) }
 {
     hex::encode(alloc, bytes)
@@ -221,13 +232,37 @@ pub fn column_json(alloc: Global, array: &ArrayRef) -> Mem<Value>
     })
 }
 
-/// The compact JSON text of a column of values, and a line feed.
+/// The text of a column before that of its type: `{"data":D,"type":`.
+fn put_start(alloc: Global, out: &mut Writer, array: &ArrayRef) -> Mem<()>
+    ensures tokens { OnOk result (out.new.tokens
+        ≡ out.old.tokens ++ column_start (data_value array.now)) }
+    ensures before { OnOk result (out.new.before ≡ out.old.before) }
+{
+    out.begin_object()?;
+    out.key("data")?;
+    put_data(alloc, out, array)?;
+    out.key("type")
+}
+
+/// The same as a string.
+fn start_text(alloc: Global, array: &ArrayRef) -> Mem<String>
+    ensures { IfOk result (λ s. string_bytes s ≡ print (column_start (data_value array.now))) }
+{
+    let mut out = Writer::new(Vec::new(alloc));
+    put_start(alloc, &mut out, array)?;
+    match String::from_utf8(out.into_inner()) {
+        Ok(text) => Ok(text),
+        Err(_) => unreachable!(),
+    }
+}
+
+/// The compact JSON text of a column of any kind, and a line feed.
 pub fn column_text(alloc: Global, array: &ArrayRef) -> Mem<String>
-    requires { IsOfValues array.now }
     ensures { IfOk result (λ s. string_bytes s ≡ column_text array.now) }
 {
-    let value = column_json(alloc, array)?;
-    let mut text = value.to_string(alloc)?;
-    text.push_str("\n")?;
+    let spelling = type_json(alloc, array.dtype())?.to_string(alloc)?;
+    let mut text = start_text(alloc, array)?;
+    text.push_str(spelling.as_str())?;
+    text.push_str("}\n")?;
     Ok(text)
 }

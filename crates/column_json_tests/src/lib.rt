@@ -4,6 +4,8 @@
 #[cfg(test)]
 mod fixtures;
 #[cfg(test)]
+mod nested;
+#[cfg(test)]
 mod reader;
 #[cfg(test)]
 mod writer;

@@ -1,14 +1,8 @@
-//! Values that are no column, and the columns and arrays of those that are.
-ghost use Rattle.std.specs.Prelude.{IfSome};
-ghost use Rattle.arrow_types.specs.Seen.{seen};
-ghost use Rattle.arrow_layout.specs.OfValues.{IsOfValues};
-ghost use Rattle.column_read.specs.Parts.{HasKind};
+//! Values that are no column, and the arrays of those that are.
 
-use crate::fixtures::is_value;
 use arrow_meaning::ArrayRef;
 use arrow_types::ArrowDataType;
-use column_json::column_json;
-use column_read::{Column, ColumnData, PrimitiveData};
+use column_read::{Column, LayoutError};
 use serde_json::Value;
 use std::alloc::Global;
 use std::test::Fail;
@@ -36,7 +30,29 @@ fn refused(rt: HostRuntime) -> Result<(), Fail> {
         r#"{"data":{"mask":null,"values":[1]},"name":1,"slice":[0,1],"type":"uint8"}"#,
         r#"{"data":{"mask":null,"values":[1]},"slice":[1],"type":"uint8"}"#,
         r#"{"data":{"buffers":[],"mask":null,"views":[[12,0,0]]},"type":"utf8_view"}"#,
-        r#"{"data":{"length":1},"type":"null"}"#,
+        r#"{"data":{"length":-1},"type":"null"}"#,
+        r#"{"data":{"length":1,"mask":null},"type":"null"}"#,
+        concat!(
+            r#"{"data":{"child":{"length":0},"mask":null,"offsets":[0],"x":0},"type":["list","#,
+            r#"["item","null",true,null]]}"#
+        ),
+        concat!(
+            r#"{"data":{"children":[{"length":0}],"length":0,"mask":null},"type":["struct","#,
+            r#"[["a","null",true,null],["b","null",true,null]]]}"#
+        ),
+        concat!(
+            r#"{"data":{"children":[{"length":0}],"offsets":null,"types":[128]},"type":["union","#,
+            r#""sparse",null,[["a","null",true,null]]]}"#
+        ),
+        concat!(
+            r#"{"data":{"keys":[128],"mask":null,"values":{"length":200}},"type":["dictionary","#,
+            r#""int8","null",false]}"#
+        ),
+        concat!(
+            r#"{"data":{"children":[{"mask":"1","values":[]},{"mask":null,"values":[256]}],"#,
+            r#""length":0,"mask":null},"type":["struct",[["a","int32",true,null],"#,
+            r#"["b","uint8",true,null]]]}"#
+        ),
     ] {
         assert!(rt; is_refused(alloc, text));
     }
@@ -44,9 +60,7 @@ fn refused(rt: HostRuntime) -> Result<(), Fail> {
 }
 
 /// The column that a text is; none where it is none.
-fn column_in(alloc: Global, text: &str) -> Option<Column>
-    ensures { IfSome result (λ c. HasKind (seen c.dtype) c.data) }
-{
+fn column_in(alloc: Global, text: &str) -> Option<Column> {
     let value = Value::from_str(alloc, text).ok()?;
     let column = Column::from_json(alloc, &value);
     drop(value);
@@ -56,36 +70,71 @@ fn column_in(alloc: Global, text: &str) -> Option<Column>
     }
 }
 
-/// The array of the slots that a column selects; none where its parts don't fit.
-fn array_in(alloc: Global, column: Column) -> Option<ArrayRef>
-    requires { HasKind (seen column.dtype) column.data }
-    ensures { IfSome result (λ a. IsOfValues a) }
-{
+/// The array of the slots that a column selects; none where its layout is bad.
+fn array_in(alloc: Global, column: Column) -> Option<ArrayRef> {
     match column.into_array(alloc) {
         Ok(array) => Some(array),
         Err(_) => None,
     }
 }
 
-/// Whether these are 1, 7 and 3 under the mask 101.
-fn are_numbers(column_data: &ColumnData) -> bool {
-    match column_data {
-        ColumnData::Primitive(PrimitiveData::Int32(parts)) => match &parts.validity {
-            Some(mask) => {
-                parts.values.as_slice() == [1, 7, 3].as_slice()
-                    && mask.iter().eq([true, false, true].iter().copied())
-            }
-            None => false,
-        },
-        _ => false,
+/// Whether a text is a column whose layout is bad.
+fn is_bad_layout(alloc: Global, text: &str) -> bool {
+    match column_in(alloc, text) {
+        Some(column) => matches!(column.into_array(alloc), Err(LayoutError::BadLayout)),
+        None => false,
     }
+}
+
+#[test]
+fn bad_layouts(rt: HostRuntime) -> Result<(), Fail> {
+    let alloc = rt.alloc();
+    for text in [
+        r#"{"data":{"mask":"1","values":"10"},"type":"boolean"}"#,
+        r#"{"data":{"bytes":"ff","mask":null,"offsets":[0,1]},"type":"utf8"}"#,
+        r#"{"data":{"mask":null,"values":[1]},"slice":[1,1],"type":"uint8"}"#,
+        r#"{"data":{"mask":"11","values":[1]},"slice":[0,1],"type":"uint8"}"#,
+        concat!(
+            r#"{"data":{"child":{"length":1},"mask":null,"offsets":[0,2]},"type":["list","#,
+            r#"["item","null",true,null]]}"#
+        ),
+        concat!(
+            r#"{"data":{"child":{"length":1},"mask":null,"offsets":[]},"type":["large_list","#,
+            r#"["item","null",true,null]]}"#
+        ),
+        concat!(
+            r#"{"data":{"child":{"mask":"1","values":[]},"mask":null,"offsets":[0]},"#,
+            r#""type":["list",["item","int32",true,null]]}"#
+        ),
+        concat!(
+            r#"{"data":{"child":{"length":3},"length":2,"mask":null},"type":["fixed_size_list","#,
+            r#"["item","null",true,null],2]}"#
+        ),
+        concat!(
+            r#"{"data":{"children":[{"length":1}],"length":2,"mask":null},"type":["struct","#,
+            r#"[["a","null",true,null]]]}"#
+        ),
+        concat!(
+            r#"{"data":{"children":[{"length":1}],"offsets":[1],"types":[0]},"type":["union","#,
+            r#""dense",null,[["a","null",true,null]]]}"#
+        ),
+        concat!(
+            r#"{"data":{"children":[{"length":1}],"offsets":null,"types":[0,0]},"#,
+            r#""type":["union","sparse",null,[["a","null",true,null]]]}"#
+        ),
+        concat!(
+            r#"{"data":{"keys":[1],"mask":null,"values":{"length":1}},"type":["dictionary","#,
+            r#""int8","null",false]}"#
+        ),
+    ] {
+        assert!(rt; is_bad_layout(alloc, text));
+    }
+    Ok(())
 }
 
 /// Whether a column is one of 32 bits, whose slice takes the last two of its three slots.
 fn is_sliced(column: &Column) -> bool {
-    column.dtype == ArrowDataType::Int32
-        && column.slice == Some((1, 2))
-        && are_numbers(&column.data)
+    column.dtype == ArrowDataType::Int32 && column.slice == Some((1, 2))
 }
 
 /// Whether an array has the slots null and 3.
@@ -109,23 +158,19 @@ fn a_column_with_a_slice(rt: HostRuntime) -> Result<(), Fail> {
     Ok(())
 }
 
-/// Whether a text is a column whose parts give an array, which is written as the same text.
-fn reads_back(alloc: Global, text: &str) -> bool {
+/// Whether a text is a column whose layout is good.
+fn is_column(alloc: Global, text: &str) -> bool {
     let Some(column) = column_in(alloc, text) else {
         return false;
     };
-    let Some(array) = array_in(alloc, column) else {
-        return false;
-    };
-    let value = column_json(alloc, &array);
-    drop(array);
-    is_value(alloc, value, text)
+    array_in(alloc, column).is_some()
 }
 
 #[test]
 fn an_array_of_each_kind(rt: HostRuntime) -> Result<(), Fail> {
     let alloc = rt.alloc();
     for text in [
+        r#"{"data":{"length":3},"type":"null"}"#,
         r#"{"data":{"mask":"110","values":"101"},"type":"boolean"}"#,
         r#"{"data":{"mask":"101","values":[1,7,3]},"type":"int32"}"#,
         r#"{"data":{"bytes":"090aff","mask":null,"offsets":[1,1,3]},"type":"binary"}"#,
@@ -139,8 +184,46 @@ fn an_array_of_each_kind(rt: HostRuntime) -> Result<(), Fail> {
             r#"{"data":{"buffers":["2d30313233343536373839616263"],"mask":"10","views":["6162","#,
             r#"[13,0,1]]},"type":"utf8_view"}"#
         ),
+        concat!(
+            r#"{"data":{"child":{"mask":null,"values":[1,2,3,4]},"mask":"101","#,
+            r#""offsets":[1,2,3,4]},"type":["list",["item","int32",true,null]]}"#
+        ),
+        concat!(
+            r#"{"data":{"child":{"length":9223372036854775807},"mask":"0","#,
+            r#""offsets":[0,9223372036854775807]},"type":["large_list",["item","null",true,"#,
+            r#"null]]}"#
+        ),
+        concat!(
+            r#"{"data":{"child":{"mask":null,"values":[]},"length":3,"mask":"101"},"#,
+            r#""type":["fixed_size_list",["item","int32",true,null],0]}"#
+        ),
+        concat!(
+            r#"{"data":{"children":[{"mask":null,"values":[7,8]}],"length":2,"mask":"10"},"#,
+            r#""type":["struct",[["a","int32",true,null]]]}"#
+        ),
+        r#"{"data":{"children":[],"length":18446744073709551615,"mask":null},"type":["struct",[]]}"#,
+        concat!(
+            r#"{"data":{"child":{"children":[{"bytes":"6162","mask":null,"offsets":[0,1,2]},"#,
+            r#"{"mask":null,"values":[1,2]}],"length":2,"mask":null},"mask":null,"#,
+            r#""offsets":[0,1,2]},"type":["map",["entries",["struct",[["key","utf8",false,null],"#,
+            r#"["value","int32",true,null]]],false,null],false]}"#
+        ),
+        concat!(
+            r#"{"data":{"children":[{"mask":null,"values":[9,8]},{"mask":null,"values":"10"}],"#,
+            r#""offsets":null,"types":[1,0]},"type":["union","sparse",null,[["a","int32",true,"#,
+            r#"null],["b","boolean",true,null]]]}"#
+        ),
+        concat!(
+            r#"{"data":{"children":[{"mask":null,"values":[1,2]},{"mask":null,"values":""}],"#,
+            r#""offsets":[0,1],"types":[5,9]},"type":["union","dense",[5,7],[["a","int32",true,"#,
+            r#"null],["b","boolean",true,null]]]}"#
+        ),
+        concat!(
+            r#"{"data":{"keys":[100,1],"mask":"01","values":{"mask":null,"values":[5,6]}},"#,
+            r#""type":["dictionary","uint8","int32",false]}"#
+        ),
     ] {
-        assert!(rt; reads_back(alloc, text));
+        assert!(rt; is_column(alloc, text));
     }
     Ok(())
 }

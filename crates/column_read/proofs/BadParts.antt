@@ -45,7 +45,7 @@ flat_fits MaskLength layout t m n stored w h = h (covers m n w)
 flat_fits WrongLogicalType layout t m n stored w h = h.1 stored
 flat_fits _ layout t m n stored w h = h
 
-flat_refused : (e : PolarsError) (layout : PhysicalType) (t : ArrowDataType) (m : Option Bits) (n : ℕ) → physical_of (seen t) ≡ Some layout → MaskFits m n → flat.Refused e layout t m n → ⊥
+pub flat_refused : (e : PolarsError) (layout : PhysicalType) (t : ArrowDataType) (m : Option Bits) (n : ℕ) → physical_of (seen t) ≡ Some layout → MaskFits m n → flat.Refused e layout t m n → ⊥
 flat_refused (ComputeError reason) layout t m n stored w h = flat_fits reason layout t m n stored w h
 flat_refused _ layout t m n stored w h = h
 
@@ -115,6 +115,9 @@ ends_within limit top (o ∷ os) h = ends_from top (to_nat o) os h.ascend
 no_some : {A : Type 0} (o : Option A) → o ≡ None → IsSome o → ⊥
 no_some None e h = cc
 no_some (Some x) e h = cc
+
+pub refused_offsets : (limit top : ℕ) (os : List ℤ) → IsSome (offsets_refusal os) → AreOffsetsWithin limit top os → ⊥
+refused_offsets limit top os h w = no_some (offsets_refusal os) (unrefused limit top os w) h
 
 pub bad_offsets : (t : TypeData) (m : Option Bits) (os : List ℤ) (bs : List ℕ) → IsSome (offsets_refusal os) → WellFormed (binaries t m os bs) → ⊥
 bad_offsets t m os bs h w = no_some (offsets_refusal os) (unrefused _ _ os w.1) h

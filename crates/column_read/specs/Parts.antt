@@ -2,6 +2,7 @@
 use Rattle.std.specs.Prelude.{◌≡◌, ℕ, ◌+◌, true, false, ◌/◌, nat_le, if◌then◌else◌, ℤ, List, length, map, take, drop, replicate, Option, Some, None, ⊤}
 use Rattle.std.specs.Int.{w8, w16, w32, w64, w128}
 use Rattle.serde_json.specs.Data.{Data}
+use Rattle.arrow_buffers.specs.Bits.{Bits}
 use Rattle.arrow_types.specs.Seen.{seen}
 use Rattle.arrow_types.specs.TypeData.{TypeData}
 use Rattle.arrow_types.specs.Types.{physical_of}
@@ -12,18 +13,20 @@ use Rattle.arrow_types.specs.declared.datatype.PrimitiveType.TheVariants as prim
 use Rattle.arrow_bytes.specs.FixedSizeBinaries.{declared_size}
 use Rattle.arrow_flat.specs.Natives.{signed, unsigned, days_ms, month_day_nano, octets, IsNative}
 use Rattle.arrow_layout.specs.Layouts.{Layout, booleans, primitives, binaries, fixed_size_binaries, views}
-use Rattle.column_grammar.specs.Reads as read
+use Rattle.column_grammar.specs.Values.{first_integer}
 use Rattle.column_grammar.specs.Reads.{booleans_in, primitives_in, binaries_in, fixed_size_binaries_in, views_in}
-use Rattle.column_read.specs.declared.column.Column.{Column}
-use Rattle.column_read.specs.declared.column.ColumnData.{ColumnData}
-use Rattle.column_read.specs.declared.column.ColumnData.TheVariants as column
-use Rattle.column_read.specs.declared.column.PrimitiveData.{PrimitiveData}
-use Rattle.column_read.specs.declared.column.PrimitiveData.TheVariants as numbers
-use Rattle.column_read.specs.declared.column.BooleanParts.{BooleanParts}
-use Rattle.column_read.specs.declared.column.PrimitiveParts.{PrimitiveParts}
-use Rattle.column_read.specs.declared.column.BinaryParts.{BinaryParts}
-use Rattle.column_read.specs.declared.column.FixedSizeBinaryParts.{FixedSizeBinaryParts}
-use Rattle.column_read.specs.declared.column.ViewParts.{ViewParts}
+use Rattle.column_read.specs.declared.parts.FlatParts.{FlatParts}
+use Rattle.column_read.specs.declared.parts.FlatParts.TheVariants as flat
+use Rattle.column_read.specs.declared.parts.PrimitiveData.{PrimitiveData}
+use Rattle.column_read.specs.declared.parts.PrimitiveData.TheVariants as numbers
+use Rattle.column_read.specs.declared.parts.BooleanParts.{BooleanParts}
+use Rattle.column_read.specs.declared.parts.PrimitiveParts.{PrimitiveParts}
+use Rattle.column_read.specs.declared.parts.BinaryParts.{BinaryParts}
+use Rattle.column_read.specs.declared.parts.FixedSizeBinaryParts.{FixedSizeBinaryParts}
+use Rattle.column_read.specs.declared.parts.ListParts.{ListParts}
+use Rattle.column_read.specs.declared.parts.SizedParts.{SizedParts}
+use Rattle.column_read.specs.declared.parts.UnionParts.{UnionParts}
+use Rattle.column_read.specs.declared.parts.ViewParts.{ViewParts}
 
 -- ---- the layout of the parts, given the type
 
@@ -35,6 +38,18 @@ primitives_layout parts t p = primitives t p.validity (map parts p.values)
 
 abbrev pub binaries_layout : {O : Type 0} → (O → ℤ) → TypeData → BinaryParts O → Layout
 binaries_layout number t p = binaries t p.validity (map number p.offsets.items) (octets p.values)
+
+abbrev pub key_parts_seen : {K : Type 0} → (K → List ℤ) → PrimitiveParts K → List ℤ × Option Bits
+key_parts_seen parts p = (map first_integer (map parts p.values), p.validity)
+
+abbrev pub list_parts_seen : {O : Type 0} → (O → ℤ) → ListParts O → Option Bits × List ℤ
+list_parts_seen number p = (p.validity, map number p.offsets.items)
+
+abbrev pub sized_parts_seen : SizedParts → ℕ × Option Bits
+sized_parts_seen p = (p.length, p.validity)
+
+abbrev pub union_parts_seen : UnionParts → Option (List ℤ) × List ℤ
+union_parts_seen p = (p.offsets, p.types)
 
 abbrev pub fixed_size_binaries_layout : TypeData → FixedSizeBinaryParts → Layout
 fixed_size_binaries_layout t p = fixed_size_binaries t p.validity p.size (length p.values / p.size) (octets p.values)
@@ -59,23 +74,16 @@ numbers_layout t (numbers.UInt64 p) = primitives_layout (unsigned 64) t p
 numbers_layout t (numbers.DaysMs p) = primitives_layout days_ms t p
 numbers_layout t (numbers.MonthDayNano p) = primitives_layout month_day_nano t p
 
-abbrev pub data_layout : TypeData → ColumnData → Layout
-data_layout t (column.Boolean p) = booleans_layout t p
-data_layout t (column.Primitive p) = numbers_layout t p
-data_layout t (column.Binary p) = binaries_layout (λ x. x) t p
-data_layout t (column.LargeBinary p) = binaries_layout (λ x. x) t p
-data_layout t (column.Utf8 p) = binaries_layout (λ x. x) t p
-data_layout t (column.LargeUtf8 p) = binaries_layout (λ x. x) t p
-data_layout t (column.FixedSizeBinary p) = fixed_size_binaries_layout t p
-data_layout t (column.BinaryView p) = views_layout t p
-data_layout t (column.Utf8View p) = views_layout t p
-
-abbrev pub column_layout : Column → Layout
-column_layout c = data_layout (seen c.dtype) c.data
-
--- The column as it is read, its slice beside it.
-abbrev pub column_seen : Column → read.Column
-column_seen c = record { layout = column_layout c; slice = c.slice }
+abbrev pub data_layout : TypeData → FlatParts → Layout
+data_layout t (flat.Boolean p) = booleans_layout t p
+data_layout t (flat.Primitive p) = numbers_layout t p
+data_layout t (flat.Binary p) = binaries_layout (λ x. x) t p
+data_layout t (flat.LargeBinary p) = binaries_layout (λ x. x) t p
+data_layout t (flat.Utf8 p) = binaries_layout (λ x. x) t p
+data_layout t (flat.LargeUtf8 p) = binaries_layout (λ x. x) t p
+data_layout t (flat.FixedSizeBinary p) = fixed_size_binaries_layout t p
+data_layout t (flat.BinaryView p) = views_layout t p
+data_layout t (flat.Utf8View p) = views_layout t p
 
 -- ---- that the parts are those of the type
 
@@ -92,32 +100,32 @@ number_kind (numbers.UInt64 p) = primitive.UInt64
 number_kind (numbers.DaysMs p) = primitive.DaysMs
 number_kind (numbers.MonthDayNano p) = primitive.MonthDayNano
 
-abbrev pub data_kind : ColumnData → PhysicalType
-data_kind (column.Boolean p) = physical.Boolean
-data_kind (column.Primitive p) = physical.Primitive (number_kind p)
-data_kind (column.Binary p) = physical.Binary
-data_kind (column.LargeBinary p) = physical.LargeBinary
-data_kind (column.Utf8 p) = physical.Utf8
-data_kind (column.LargeUtf8 p) = physical.LargeUtf8
-data_kind (column.FixedSizeBinary p) = physical.FixedSizeBinary
-data_kind (column.BinaryView p) = physical.BinaryView
-data_kind (column.Utf8View p) = physical.Utf8View
+abbrev pub data_kind : FlatParts → PhysicalType
+data_kind (flat.Boolean p) = physical.Boolean
+data_kind (flat.Primitive p) = physical.Primitive (number_kind p)
+data_kind (flat.Binary p) = physical.Binary
+data_kind (flat.LargeBinary p) = physical.LargeBinary
+data_kind (flat.Utf8 p) = physical.Utf8
+data_kind (flat.LargeUtf8 p) = physical.LargeUtf8
+data_kind (flat.FixedSizeBinary p) = physical.FixedSizeBinary
+data_kind (flat.BinaryView p) = physical.BinaryView
+data_kind (flat.Utf8View p) = physical.Utf8View
 
 -- The bytes are in range: each is its own number.
 abbrev pub AreOctets : List ℕ → Type 0
 AreOctets bs = octets bs ≡ bs
 
 -- The bytes of the parts are in range, and the size of values of one size is that which the type declares.
-abbrev pub IsReadAs : Option ℕ → ColumnData → Type 0
-IsReadAs size (column.Binary p) = AreOctets p.values
-IsReadAs size (column.LargeBinary p) = AreOctets p.values
-IsReadAs size (column.Utf8 p) = AreOctets p.values
-IsReadAs size (column.LargeUtf8 p) = AreOctets p.values
-IsReadAs size (column.FixedSizeBinary p) = AreOctets p.values × (size ≡ Some p.size)
+abbrev pub IsReadAs : Option ℕ → FlatParts → Type 0
+IsReadAs size (flat.Binary p) = AreOctets p.values
+IsReadAs size (flat.LargeBinary p) = AreOctets p.values
+IsReadAs size (flat.Utf8 p) = AreOctets p.values
+IsReadAs size (flat.LargeUtf8 p) = AreOctets p.values
+IsReadAs size (flat.FixedSizeBinary p) = AreOctets p.values × (size ≡ Some p.size)
 IsReadAs size _ = ⊤
 
 -- The parts are of the layout of the type.
-pub record HasKind (t : TypeData) (d : ColumnData) : Type 0 where
+pub record HasKind (t : TypeData) (d : FlatParts) : Type 0 where
   pub stored : physical_of t ≡ Some (data_kind d)
   pub read : IsReadAs (declared_size t) d
 

@@ -16,8 +16,9 @@ ghost use Rattle.column_grammar.specs.Reads.{offset_bits, binaries_in};
 ghost use Rattle.column_read.specs.Parts.{binaries_layout, AreOctets};
 ghost use Rattle.column_read.specs.declared.error.LayoutError.TheVariants.{BadLayout};
 
+use crate::parts::BinaryParts;
 use crate::value::{bytes_in, items, mask_in, three_members};
-use crate::{BinaryParts, LayoutError, ReadOffset};
+use crate::{LayoutError, ReadOffset};
 use arrow_buffers::{Buffer, Offset, Offsets, OffsetsBuffer};
 use arrow_bytes::OffsetArray;
 use arrow_flat::ViewType;
@@ -43,7 +44,7 @@ fn offset_list<O: ReadOffset>(alloc: Global, list: &[Value]) -> Result<Vec<O>, J
 
 /// The offsets that a JSON value is: a list of numbers.
 #[tactic(auto, unfolding(column_grammar::specs::Values::list_in))]
-fn offsets_in<O: ReadOffset>(alloc: Global, value: &Value) -> Result<Vec<O>, JsonError>
+pub(crate) fn offsets_in<O: ReadOffset>(alloc: Global, value: &Value) -> Result<Vec<O>, JsonError>
     ensures { Reads BadValue (λ v. map O.number v.items)
         (list_in (signed_in (offset_bits O.IS_LARGE)) (view value.now)) result }
 {
@@ -77,7 +78,7 @@ pub(crate) fn binaries_in<O: ReadOffset>(
 }
 
 /// The offsets of a vector, to be shared; None where they are no offsets.
-fn shared_offsets<O: Offset>(offsets: Vec<O>) -> Mem<Option<OffsetsBuffer<O>>>
+pub(crate) fn shared_offsets<O: Offset>(offsets: Vec<O>) -> Mem<Option<OffsetsBuffer<O>>>
     ensures { IfOk result (λ o. MatchOption o
         (IsSome (offsets_refusal (map O.number offsets.items))) (λ b. b ≡ offsets.items)) }
 {

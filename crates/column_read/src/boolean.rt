@@ -13,8 +13,9 @@ ghost use Rattle.column_grammar.specs.Reads.{booleans_in};
 ghost use Rattle.column_read.specs.Parts.{booleans_layout};
 ghost use Rattle.column_read.specs.declared.error.LayoutError.TheVariants.{BadLayout};
 
+use crate::LayoutError;
+use crate::parts::BooleanParts;
 use crate::value::{bits_in, mask_in, two_members};
-use crate::{BooleanParts, LayoutError};
 use arrow_flat::BooleanArray;
 use arrow_types::ArrowDataType;
 use serde_json::Value;

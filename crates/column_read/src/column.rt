@@ -1,129 +1,111 @@
-//! A column as it is read: its parts, which may not fit together.
-ghost use Rattle.std.specs.Prelude.{IfOk};
+//! A column as it is read.
+ghost use Rattle.std.specs.Prelude.{None, IfOk};
 ghost use Rattle.serde_json.specs.View.{view};
 ghost use Rattle.arrow_types.specs.Seen.{seen};
-ghost use Rattle.arrow_layout.specs.OfValues.{IsOfValues};
-ghost use Rattle.type_json.specs.Reads.{Reads, Makes};
+ghost use Rattle.type_json.specs.Reads.{Makes};
 ghost use Rattle.type_json.specs.TypeJson.{IsType};
 ghost use Rattle.type_json.specs.declared.error.JsonError.TheVariants.{BadValue};
-ghost use Rattle.column_grammar.specs.Reads.{column_of, selected_layout, IsValidColumn};
-ghost use Rattle.column_read.specs.Parts.{column_seen, HasKind};
+ghost use Rattle.column_grammar.specs.Reads as grammar;
+ghost use Rattle.column_grammar.specs.Reads.{column_of, column_from, selected_layout, sliced_layout, IsValidColumn, IsWithin};
+ghost use Rattle.column_read.specs.Arrays.{ReadsColumn, IsColumn};
 ghost use Rattle.column_read.specs.declared.error.LayoutError.TheVariants.{BadLayout};
 
 use crate::LayoutError;
-use crate::make_array::{sliced, whole_array};
-use crate::read_parts::column_in;
-use arrow_buffers::{Bitmap, Buffer};
-use arrow_flat::{DaysMs, MonthDayNano};
+use crate::array::array_in;
+use crate::value::{slice_in, three_members, two_members};
 use arrow_meaning::ArrayRef;
 use arrow_types::ArrowDataType;
-use arrow_views::View;
 use serde_json::Value;
 use std::alloc::Global;
-use type_json::JsonError;
+use type_json::{JsonError, type_from_json};
 
-/// A column as it is read: its parts, which may not fit together, and the offset and the length of
-/// the slice that it selects.
+/// A column as it is read.
 #[derive(Drop)]
 pub struct Column {
+    /// The whole type.
     pub dtype: ArrowDataType,
-    pub data: ColumnData,
+    /// The array, None where what was read isn't well formed.
+    pub array: Option<ArrayRef>,
+    /// The offset and the length of the slice that the column selects, None for all slots.
     pub slice: Option<(usize, usize)>,
 }
 
 impl Column {
-    /// The column that a JSON value is, its parts fitting together or not: an object of data and a
-    /// type, with a slice beside them or not. BadValue exactly where it isn't in the grammar.
+    /// The column that a JSON value is, well formed or not: an object of data and a type, with a
+    /// slice beside them or not. BadValue exactly where it isn't in the grammar.
+    #[tactic(auto, unfolding(column_grammar::specs::Reads::column_of))]
     pub fn from_json(alloc: Global, value: &Value) -> Result<Column, JsonError>
-        ensures kind { IfOk result (λ c. HasKind (seen c.dtype) c.data) }
         ensures is_type { IfOk result (λ c. IsType (seen c.dtype)) }
-        ensures read { Reads BadValue column_seen (column_of (view value.now)) result }
+        ensures read { ReadsColumn (column_of (view value.now)) result }
     {
-        column_in(alloc, value)
+        if let Some((data, name)) = two_members(value, "data", "type") {
+            return column_from(alloc, None, data, name);
+        }
+        let Some((data, slice, name)) = three_members(value, "data", "slice", "type") else {
+            return Err(JsonError::BadValue);
+        };
+        let Some(slice) = slice_in(slice) else {
+            return Err(JsonError::BadValue);
+        };
+        column_from(alloc, Some(slice), data, name)
     }
 
-    /// The array of the slots that the column selects. BadLayout exactly where its parts aren't
-    /// well formed, or its slice passes their length.
+    /// The array of the slots that the column selects. BadLayout exactly where what was read isn't
+    /// well formed, or its slice passes its length.
     pub fn into_array(self, alloc: Global) -> Result<ArrayRef, LayoutError>
-        requires { HasKind (seen self.dtype) self.data }
-        ensures array { Makes BadLayout (λ a. a) (selected_layout (column_seen self))
-            (IsValidColumn (column_seen self)) result }
-        ensures valid { IfOk result (λ _. IsValidColumn (column_seen self)) }
-        ensures of_values { IfOk result (λ a. IsOfValues a) }
+        ensures array { (k : grammar.Column) → IsColumn k self
+            → Makes BadLayout (λ a. a) (selected_layout k) (IsValidColumn k) result }
+        ensures valid { (k : grammar.Column) → IsColumn k self
+            → IfOk result (λ _. IsValidColumn k) }
     {
-        let Column { dtype, data, slice } = self;
-        let array = whole_array(alloc, dtype, data)?;
-        sliced(alloc, array, slice)
+        let Column {
+            dtype: _,
+            array,
+            slice,
+        } = self;
+        match array {
+            Some(array) => sliced(alloc, array, slice),
+            None => Err(LayoutError::BadLayout),
+        }
     }
 }
 
-/// The parts of a column beside its type, by the layout of the type.
-#[derive(Drop)]
-pub enum ColumnData {
-    Boolean(BooleanParts),
-    Primitive(PrimitiveData),
-    Binary(BinaryParts<i32>),
-    LargeBinary(BinaryParts<i64>),
-    Utf8(BinaryParts<i32>),
-    LargeUtf8(BinaryParts<i64>),
-    FixedSizeBinary(FixedSizeBinaryParts),
-    BinaryView(ViewParts),
-    Utf8View(ViewParts),
+/// The column of these data, this type and this slice.
+fn column_from(
+    alloc: Global,
+    slice: Option<(usize, usize)>,
+    content: &Value,
+    name: &Value,
+) -> Result<Column, JsonError>
+    ensures is_type { IfOk result (λ c. IsType (seen c.dtype)) }
+    ensures read { ReadsColumn (column_from slice (view content.now, view name.now)) result }
+{
+    let dtype = type_from_json(alloc, name)?;
+    let array = array_in(alloc, &dtype, content)?;
+    Ok(Column {
+        dtype,
+        array,
+        slice,
+    })
 }
 
-/// The parts of a primitive column, by the type of its values.
-#[derive(Drop)]
-pub enum PrimitiveData {
-    Int8(PrimitiveParts<i8>),
-    Int16(PrimitiveParts<i16>),
-    Int32(PrimitiveParts<i32>),
-    Int64(PrimitiveParts<i64>),
-    Int128(PrimitiveParts<i128>),
-    UInt8(PrimitiveParts<u8>),
-    UInt16(PrimitiveParts<u16>),
-    UInt32(PrimitiveParts<u32>),
-    UInt64(PrimitiveParts<u64>),
-    DaysMs(PrimitiveParts<DaysMs>),
-    MonthDayNano(PrimitiveParts<MonthDayNano>),
-}
-
-/// Bits under a mask.
-#[derive(Drop)]
-pub struct BooleanParts {
-    pub values: Bitmap,
-    pub validity: Option<Bitmap>,
-}
-
-/// Values of fixed width under a mask.
-#[derive(Drop)]
-pub struct PrimitiveParts<T> {
-    pub values: Buffer<T>,
-    pub validity: Option<Bitmap>,
-}
-
-/// Binary values or strings under a mask: where each begins in the bytes, and where the last one
-/// ends.
-#[derive(Drop)]
-pub struct BinaryParts<O> {
-    pub offsets: Vec<O>,
-    pub values: Buffer<u8>,
-    pub validity: Option<Bitmap>,
-}
-
-/// Binary values of one size under a mask.
-#[derive(Drop)]
-pub struct FixedSizeBinaryParts {
-    pub size: usize,
-    pub values: Buffer<u8>,
-    pub validity: Option<Bitmap>,
-}
-
-/// Binary values or strings under a mask, by views: short ones in place and long ones in buffers.
-///
-/// The prefix of a view is computed: zeros where its range isn't in the buffers.
-#[derive(Drop)]
-pub struct ViewParts {
-    pub views: Vec<View>,
-    pub buffers: Vec<Buffer<u8>>,
-    pub validity: Option<Bitmap>,
+/// The slots that a slice selects of an array, or all. BadLayout exactly where the slice passes the
+/// array's length.
+fn sliced(
+    alloc: Global,
+    array: ArrayRef,
+    slice: Option<(usize, usize)>,
+) -> Result<ArrayRef, LayoutError>
+    ensures array { Makes BadLayout (λ a. a) (sliced_layout array slice)
+        (IsWithin array slice) result }
+    ensures within { IfOk result (λ _. IsWithin array slice) }
+{
+    let Some((offset, length)) = slice else {
+        return Ok(array);
+    };
+    let len = array.len();
+    if offset > len || length > len - offset {
+        return Err(LayoutError::BadLayout);
+    }
+    Ok(array.sliced(alloc, offset, length)?)
 }

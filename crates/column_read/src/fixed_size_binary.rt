@@ -12,8 +12,9 @@ ghost use Rattle.column_grammar.specs.Reads.{fixed_size_binaries_in};
 ghost use Rattle.column_read.specs.Parts.{fixed_size_binaries_layout, AreOctets};
 ghost use Rattle.column_read.specs.declared.error.LayoutError.TheVariants.{BadLayout};
 
+use crate::LayoutError;
+use crate::parts::FixedSizeBinaryParts;
 use crate::value::{bytes_in, mask_in, two_members};
-use crate::{FixedSizeBinaryParts, LayoutError};
 use arrow_buffers::Buffer;
 use arrow_bytes::FixedSizeBinaryArray;
 use arrow_types::ArrowDataType;

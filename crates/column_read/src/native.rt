@@ -35,8 +35,9 @@ pub trait ReadOffset: Offset {
 
 /// The number of 8 bits and a sign that a value is.
 #[tactic(auto, unfolding(column_grammar::specs::Values::signed_in))]
-fn int8_in(value: &Value) -> Option<i8>
-    ensures { option_map (signed w8) result ≡ one (signed_in 7 (view value.now)) }
+pub(crate) fn int8_in(value: &Value) -> Option<i8>
+    ensures number { result ≡ signed_in 7 (view value.now) }
+    ensures parts { option_map (signed w8) result ≡ one (signed_in 7 (view value.now)) }
 {
     i8::try_from(value.as_i64()?).ok()
 }

@@ -16,8 +16,9 @@ ghost use Rattle.column_grammar.specs.Reads.{primitives_in};
 ghost use Rattle.column_read.specs.Parts.{primitives_layout, numbers_layout, number_kind};
 ghost use Rattle.column_read.specs.declared.error.LayoutError.TheVariants.{BadLayout};
 
+use crate::parts::{PrimitiveData, PrimitiveParts};
 use crate::value::{items, mask_in, two_members};
-use crate::{LayoutError, PrimitiveData, PrimitiveParts, ReadNative};
+use crate::{LayoutError, ReadNative};
 use arrow_buffers::Buffer;
 use arrow_flat::{NativeType, PrimitiveArray};
 use arrow_meaning::PrimitiveNode;
@@ -40,7 +41,7 @@ fn value_list<T: ReadNative>(alloc: Global, list: &[Value]) -> Result<Vec<T>, Js
 
 /// The values of a type that a JSON value is: a list of them.
 #[tactic(auto, unfolding(column_grammar::specs::Values::list_in))]
-fn values_in<T: ReadNative>(alloc: Global, value: &Value) -> Result<Vec<T>, JsonError>
+pub(crate) fn values_in<T: ReadNative>(alloc: Global, value: &Value) -> Result<Vec<T>, JsonError>
     ensures { Reads BadValue (λ v. map T.parts v.items)
         (list_in (number_in T.PRIMITIVE) (view value.now)) result }
 {

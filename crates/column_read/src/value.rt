@@ -4,15 +4,29 @@ ghost use Rattle.serde_json.specs.View.{view};
 ghost use Rattle.arrow_flat.specs.Natives.{octets};
 ghost use Rattle.type_json.specs.Reads.{Reads};
 ghost use Rattle.type_json.specs.declared.error.JsonError.TheVariants.{BadValue};
-ghost use Rattle.type_json.specs.Values.{two_members, three_members};
-ghost use Rattle.column_grammar.specs.Values.{bit_of_digit, bits_of_text, bits_in_json, mask_in, bytes_in, items_in, pair_of, triple_of};
+ghost use Rattle.type_json.specs.Values.{two_members, three_members, whole_in};
+ghost use Rattle.std.specs.Option.{option_zip};
+ghost use Rattle.column_read.specs.Parts.{sized_parts_seen};
+ghost use Rattle.column_grammar.specs.Values.{bit_of_digit, bits_of_text, bits_in_json, mask_in, bytes_in, items_in, pair_of, triple_of, one_member};
 ghost use Rattle.column_grammar.specs.Reads.{slice_in};
 
+use crate::parts::SizedParts;
 use arrow_buffers::{Bitmap, MutableBitmap};
 use hex::FromHexError;
 use serde_json::Value;
 use std::alloc::Global;
 use type_json::{JsonError, whole_in};
+
+/// The value at a key, of an object that has no other key.
+pub fn one_member<'v>(value: &'v Value, key: &str) -> Option<&'v Value>
+    ensures { option_map (λ d. view d.now) result ≡ one_member key.now (view value.now) }
+{
+    let members = value.as_object()?;
+    if members.len() != 1 {
+        return None;
+    }
+    value.get(key)
+}
 
 /// The values at two keys, of an object that has no other key.
 pub fn two_members<'v>(
@@ -128,6 +142,20 @@ pub fn mask_in(alloc: Global, value: &Value) -> Result<Option<Bitmap>, JsonError
     }
     let bits = bits_in(alloc, value)?;
     Ok(Some(bits))
+}
+
+/// The length and the mask that two values are. BadValue exactly where one of them is none.
+pub(crate) fn sized_parts(
+    alloc: Global,
+    length: &Value,
+    mask: &Value,
+) -> Result<SizedParts, JsonError>
+    ensures { Reads BadValue sized_parts_seen
+        (option_zip (whole_in (view length.now)) (mask_in (view mask.now))) result }
+{
+    let length = whole_in(length).ok_or(JsonError::BadValue)?;
+    let validity = mask_in(alloc, mask)?;
+    Ok(SizedParts { length, validity })
 }
 
 /// The bytes that a value is: a text of two hexadecimal digits a byte, in both cases. BadValue

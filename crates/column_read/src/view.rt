@@ -17,9 +17,10 @@ ghost use Rattle.column_grammar.specs.Reads.{prefix_in, inline_of, long_in, view
 ghost use Rattle.column_read.specs.Parts.{four_of, views_layout};
 ghost use Rattle.column_read.specs.declared.error.LayoutError.TheVariants.{BadLayout};
 
+use crate::LayoutError;
 use crate::native::uint32_in;
+use crate::parts::ViewParts;
 use crate::value::{bytes_in, items, mask_in, three_members, triple_in};
-use crate::{LayoutError, ViewParts};
 use arrow_buffers::Buffer;
 use arrow_types::{ArrowDataType, PolarsError};
 use arrow_views::{BinaryViewArrayGeneric, View, ViewType};

@@ -10,16 +10,14 @@ use Rattle.arrow_layout.specs.Layouts.{Layout, length_of, type_of}
 use Rattle.arrow_layout.specs.WellFormed.{WellFormed}
 use Rattle.arrow_layout.specs.Denote.{denote}
 use Rattle.arrow_layout.specs.Fits.{Fits}
-use Rattle.arrow_layout.specs.Forms.{form_of}
+use Rattle.arrow_layout.proofs.Smalls.{small-denote}
 use Rattle.arrow_layout.proofs.Conforms.{conforms}
 use Rattle.arrow_layout.proofs.Lengths.{length-denote}
 use Rattle.arrow_layout.proofs.Unique.{carried_of}
 use Rattle.arrow_layout.proofs.CutForms.{cut_well_formed, type-cut}
 use Rattle.arrow_canon.specs.Canonical.{canonical_of}
-use Rattle.column_grammar.specs.Laws.{HasJsonForm}
 use Rattle.column_grammar.specs.Reads.{Column, IsValidColumn, IsWithin, column_of, selected_layout, sliced_layout}
 use Rattle.column_grammar.specs.Writes.{column_text}
-use Rattle.column_grammar.proofs.Typed.{read_form}
 use Rattle.jobs.specs.Job.{HasAnswer, IsJob, Job, answer_text, canon_of, deepest, job_of, job_slots, job_type, whole_of}
 use Rattle.jobs.specs.Laws.{IsTaken}
 use Rattle.jobs.specs.declared.command.Command.{Command}
@@ -52,7 +50,7 @@ pub whole_part : (o : Option Column) (j : Job) → option_map whole_of o ≡ Som
 whole_part None j e = let no : ⊥ = cc in absurd no
 whole_part (Some k) j e = let f : whole_of k ≡ j = cc in (k, refl, f)
 
-module _ (bytes : List ℕ) (k : Column) (job : IsJob Canon bytes (whole_of k)) (is : column_of job.in_grammar.value ≡ Some k) where
+module _ (bytes : List ℕ) (k : Column) (job : IsJob Canon bytes (whole_of k)) where
   same_type : type_of k.layout ≡ type_of (selected_layout k)
   same_type = sym (sliced_type k.layout k.slice)
 
@@ -62,20 +60,20 @@ module _ (bytes : List ℕ) (k : Column) (job : IsJob Canon bytes (whole_of k)) 
   column_taken : IsTaken (type_of (selected_layout k))
   column_taken = record {
     carried = carried_of (selected_layout k) (selected_well_formed k valid);
-    read = subst (λ t. HasJsonForm (form_of t)) same_type (read_form job.in_grammar.value k is);
     is_type = subst IsType same_type job.are_types.0;
     shallow = subst (λ t. depth_of t ≤ deepest) same_type job.in_grammar.shallow.0;
   }
 
-equal_wholes : (a b : List ℕ) (k m : Column) (j : IsJob Canon a (whole_of k)) (i : IsJob Canon b (whole_of m))
-    → column_of j.in_grammar.value ≡ Some k → column_of i.in_grammar.value ≡ Some m → HasAnswer Canon (whole_of k) → HasAnswer Canon (whole_of m)
+equal_wholes : (a b : List ℕ) (k m : Column) → IsJob Canon a (whole_of k) → IsJob Canon b (whole_of m) → HasAnswer Canon (whole_of k) → HasAnswer Canon (whole_of m)
     → answer_text Canon (whole_of k) ≡ answer_text Canon (whole_of m) → (job_type (whole_of k) ≡ job_type (whole_of m)) × (job_slots (whole_of k) ≡ job_slots (whole_of m))
-equal_wholes a b k m j i ek em fk fm e =
+equal_wholes a b k m j i fk fm e =
     let wk = whole_canon k j.sound.0 in
     let wm = whole_canon m i.sound.0 in
+    let fit_k = selected_well_formed k j.sound.0 in
+    let fit_m = selected_well_formed m i.sound.0 in
     let same =
-    equal_texts (type_of (selected_layout k)) (type_of (selected_layout m)) (denote (selected_layout k)) (denote (selected_layout m)) (column_taken a k j ek) (column_taken b m i em)
-    (conforms (selected_layout k) (selected_well_formed k j.sound.0)) (conforms (selected_layout m) (selected_well_formed m i.sound.0)) (subst Fits wk fk) (subst Fits wm fm)
+    equal_texts (type_of (selected_layout k)) (type_of (selected_layout m)) (denote (selected_layout k)) (denote (selected_layout m)) (column_taken a k j) (column_taken b m i)
+    (conforms (selected_layout k) fit_k) (conforms (selected_layout m) fit_m) (subst Fits wk fk) (subst Fits wm fm) (small-denote (selected_layout k) fit_k) (small-denote (selected_layout m) fit_m)
     (ap column_text (sym wk) ∙ e ∙ ap column_text wm) in
     (same.0, whole_slots k j.sound.0 ∙ same.1 ∙ sym (whole_slots m i.sound.0))
 
@@ -84,24 +82,23 @@ abbrev AreOne : Job → Job → Type 0
 AreOne j k = answer_text Canon j ≡ answer_text Canon k → (job_type j ≡ job_type k) × (job_slots j ≡ job_slots k)
 
 -- A job of one column, what of it is known.
-abbrev IsAnsweredAs : List ℕ → Column → Job → Type 0
-IsAnsweredAs bytes c j = ((job : IsJob Canon bytes j) × (column_of job.in_grammar.value ≡ Some c)) × HasAnswer Canon j
+abbrev IsAnsweredAs : List ℕ → Job → Type 0
+IsAnsweredAs bytes j = IsJob Canon bytes j × HasAnswer Canon j
 
-answered_as : (bytes : List ℕ) (j : Job) → IsJob Canon bytes j → HasAnswer Canon j → (c : Column) × (whole_of c ≡ j) × IsAnsweredAs bytes c j
-answered_as bytes j h f = let p = whole_part (column_of h.in_grammar.value) j h.in_grammar.is_job in (p.0, p.2, ((h, p.1), f))
+one_column : (bytes : List ℕ) (j : Job) → IsJob Canon bytes j → (c : Column) × (whole_of c ≡ j)
+one_column bytes j h = let p = whole_part (column_of h.in_grammar.value) j h.in_grammar.is_job in (p.0, p.2)
 
-by_columns : (a b : List ℕ) (c d : Column) (j k : Job) → whole_of c ≡ j → whole_of d ≡ k → IsAnsweredAs a c j → IsAnsweredAs b d k → AreOne j k
+by_columns : (a b : List ℕ) (c d : Column) (j k : Job) → whole_of c ≡ j → whole_of d ≡ k → IsAnsweredAs a j → IsAnsweredAs b k → AreOne j k
 by_columns a b c d j k ec ed =
-    subst (λ j. IsAnsweredAs a c j → IsAnsweredAs b d k → AreOne j k) ec
-    (subst (λ k. IsAnsweredAs a c (whole_of c) → IsAnsweredAs b d k → AreOne (whole_of c) k) ed
-    (λ h g e. equal_wholes a b c d h.0.0 g.0.0 h.0.1 g.0.1 h.1 g.1 e))
+    subst (λ j. IsAnsweredAs a j → IsAnsweredAs b k → AreOne j k) ec
+    (subst (λ k. IsAnsweredAs a (whole_of c) → IsAnsweredAs b k → AreOne (whole_of c) k) ed (λ h g e. equal_wholes a b c d h.0 g.0 h.1 g.1 e))
 
 pub equal_jobs : (a b : List ℕ) (j k : Job) → IsJob Canon a j → IsJob Canon b k → HasAnswer Canon j → HasAnswer Canon k → answer_text Canon j ≡ answer_text Canon k
     → (job_type j ≡ job_type k) × (job_slots j ≡ job_slots k)
 equal_jobs a b j k hj hk fj fk =
-    let p = answered_as a j hj fj in
-    let q = answered_as b k hk fk in
-    by_columns a b p.0 q.0 j k p.1 q.1 p.2 q.2
+    let p = one_column a j hj in
+    let q = one_column b k hk in
+    by_columns a b p.0 q.0 j k p.1 q.1 (hj, fj) (hk, fk)
 
 pub same_jobs : (j k : Job) → (job_type j ≡ job_type k) × (job_slots j ≡ job_slots k) → answer_text Canon j ≡ answer_text Canon k
 same_jobs j k e = same_texts (job_type j) (job_type k) (job_slots j) (job_slots k) e

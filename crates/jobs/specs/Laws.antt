@@ -4,13 +4,10 @@ use Rattle.arrow_types.specs.Carried.{IsCarried}
 use Rattle.arrow_types.specs.TypeData.{TypeData}
 use Rattle.arrow_types.specs.Depth.{depth_of}
 use Rattle.type_json.specs.TypeJson.{IsType}
-use Rattle.arrow_layout.specs.Forms.{form_of}
-use Rattle.column_grammar.specs.Laws.{HasJsonForm}
 use Rattle.jobs.specs.Job.{deepest}
 
--- one that columns may have, of a layout that the program reads, and no deeper than a job's
+-- one that columns may have, and no deeper than a job's
 pub record IsTaken (t : TypeData) : Type 0 where
   pub carried : IsCarried t
-  pub read : HasJsonForm (form_of t)
   pub is_type : IsType t
   pub shallow : depth_of t ≤ deepest

@@ -2,7 +2,6 @@
 ghost use Rattle.std.specs.Prelude.{◌≡◌, ◌≤◌, ◌⊎◌, [], length, string_bytes, IfOk, IfErr, IfSome, IsErrOf};
 ghost use Rattle.arrow_layout.specs.Canonical.{Canonical};
 ghost use Rattle.arrow_layout.specs.Fits.{Fits};
-ghost use Rattle.arrow_layout.specs.OfValues.{IsOfValues};
 ghost use Rattle.arrow_canon.specs.Canonical.{canonical_of};
 ghost use Rattle.column_grammar.specs.Writes.{column_text};
 ghost use Rattle.jobs.specs.Job.{HasAnswer, IsJob, IsOf, Job, answer_text, limit};
@@ -33,7 +32,6 @@ pub(crate) fn answer(alloc: Global, command: Command, bytes: &[u8]) -> Result<St
 
 /// The text of the canonical array of an array's slots. Overflow exactly where it doesn't fit.
 fn canonical_text(alloc: Global, array: &ArrayRef) -> Result<String, Refusal>
-    requires { IsOfValues array.now }
     ensures ok { IfOk result (λ text. Fits (canonical_of array.now)
         × (string_bytes text ≡ column_text (canonical_of array.now))) }
     ensures overflow { IsErrOf result refusal.Overflow → Fits (canonical_of array.now) → ⊥ }

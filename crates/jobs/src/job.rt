@@ -2,10 +2,9 @@
 ghost use Rattle.std.specs.Prelude.{◌≡◌, ◌≤◌, length, Some, IfOk, IfErr, IfSome};
 ghost use Rattle.serde_json.specs.View.{view};
 ghost use Rattle.arrow_types.specs.Seen.{seen};
-ghost use Rattle.arrow_layout.specs.OfValues.{IsOfValues};
 ghost use Rattle.type_json.specs.TypeJson.{IsType};
 ghost use Rattle.column_grammar.specs.Reads.{Column as Seen, selected_layout};
-ghost use Rattle.column_read.specs.Parts.{column_seen, HasKind};
+ghost use Rattle.column_read.specs.Arrays.{IsColumn};
 ghost use Rattle.jobs.specs.Job.{IsInGrammar, IsJob, IsOf, limit, reading, whole_of};
 ghost use Rattle.jobs.specs.Refusals.{refusal_of};
 ghost use Rattle.jobs.specs.declared.command.Command.{Command};
@@ -70,10 +69,9 @@ fn parse(alloc: Global, bytes: &[u8]) -> Result<Value, Refusal>
 /// The column that the bytes are. Each refusal comes exactly for its cause.
 fn column_in(alloc: Global, bytes: &[u8]) -> Result<Column, Refusal>
     requires { length bytes.now ≤ limit }
-    ensures kind { IfOk result (λ k. HasKind (seen k.dtype) k.data) }
     ensures is_type { IfOk result (λ k. IsType (seen k.dtype)) }
-    ensures ok { IfOk result (λ k. (c : Command)
-        → IsInGrammar c bytes.now (whole_of (column_seen k))) }
+    ensures ok { IfOk result (λ column. (k : Seen) × IsColumn k column
+        × ((c : Command) → IsInGrammar c bytes.now (whole_of k))) }
     ensures bad { IfErr result (λ e. (c : Command) → IfSome (refusal_of e)
         (λ v. IsOf c v bytes.now)) }
 {
@@ -93,7 +91,6 @@ fn column_in(alloc: Global, bytes: &[u8]) -> Result<Column, Refusal>
 /// cause.
 pub(crate) fn array_in(alloc: Global, bytes: &[u8]) -> Result<ArrayRef, Refusal>
     requires { length bytes.now ≤ limit }
-    ensures of_values { IfOk result (λ a. IsOfValues a) }
     ensures ok { IfOk result (λ a. (k : Seen) × (a ≡ selected_layout k)
         × ((c : Command) → IsJob c bytes.now (whole_of k))) }
     ensures bad { IfErr result (λ e. (c : Command) → IfSome (refusal_of e)

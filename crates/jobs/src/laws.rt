@@ -7,7 +7,7 @@ ghost use Rattle.type_json.specs.Texts.{IsTold};
 ghost use Rattle.type_json.specs.TypeJson.{type_in, type_value, IsSpelled};
 ghost use Rattle.arrow_types.specs.Depth.{depth_of};
 ghost use Rattle.arrow_flat.specs.Slots.{Slot};
-ghost use Rattle.arrow_layout.specs.Fits.{Fits};
+ghost use Rattle.arrow_layout.specs.Fits.{Fits, Small};
 ghost use Rattle.arrow_layout.specs.Layouts.{Layout, type_of};
 ghost use Rattle.arrow_layout.specs.Denote.{denote};
 ghost use Rattle.arrow_layout.specs.Plain.{IsPlain};
@@ -26,6 +26,7 @@ ghost use Rattle.jobs.specs.Laws.{IsTaken};
 pub fn texts_tell_columns()
     ensures { (t u : TypeData) (s r : List Slot) → IsTaken t → IsTaken u
         → HasSlots t s → HasSlots u r → Fits (canon t s) → Fits (canon u r)
+        → Small (canon t s) → Small (canon u r)
         → (column_text (canon t s) ≡ column_text (canon u r)) ↔ ((t ≡ u) × (s ≡ r)) }
 {}
 

@@ -2,4 +2,6 @@
 #![tactic(auto)]
 
 #[cfg(test)]
+mod nested;
+#[cfg(test)]
 mod runs;
