@@ -43,6 +43,28 @@ fn each_list_struct_and_map_has_its_outcome(rt: HostRuntime) {
             ),
             (
                 concat!(
+                    r#"{"data":{"child":{"length":9223372036854775807},"mask":"0","offsets":[0,92"#,
+                    r#"23372036854775807]},"type":["large_list",["item","null",true,null]]}"#
+                ),
+                Outcome::Done,
+                concat!(
+                    r#"{"data":{"child":{"length":0},"mask":"0","offsets":[0,0]},"type":["large_l"#,
+                    r#"ist",["item","null",true,null]]}"#
+                ),
+            ),
+            (
+                concat!(
+                    r#"{"data":{"child":{"length":9223372036854775807},"mask":"1","offsets":[0,92"#,
+                    r#"23372036854775807]},"type":["large_list",["item","null",true,null]]}"#
+                ),
+                Outcome::Done,
+                concat!(
+                    r#"{"data":{"child":{"length":9223372036854775807},"mask":null,"offsets":[0,9"#,
+                    r#"223372036854775807]},"type":["large_list",["item","null",true,null]]}"#
+                ),
+            ),
+            (
+                concat!(
                     r#"{"data":{"child":{"mask":null,"values":[]},"length":3,"mask":"101"},"type""#,
                     r#":["fixed_size_list",["item","int32",true,null],0]}"#
                 ),

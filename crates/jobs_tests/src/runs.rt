@@ -80,10 +80,20 @@ fn is_so(alloc: Global, command: &str, row: &Row) -> Mem<bool> {
     Ok(outcome? == row.1 && is_written)
 }
 
-/// The first job of a command that doesn't end and write as its row says.
+/// Whether a job ends and writes as its row says, and `check` is done with what it writes.
+fn is_settled(alloc: Global, command: &str, row: &Row) -> Mem<bool> {
+    if row.2.is_empty() {
+        return is_so(alloc, command, row);
+    }
+    let is_canonical = is_so(alloc, "check", &(row.2, Outcome::Done, ""))?;
+    Ok(is_so(alloc, command, row)? && is_canonical)
+}
+
+/// The first job of a command that doesn't end and write as its row says, or writes what isn't
+/// canonical.
 pub(crate) fn first_wrong(alloc: Global, command: &str, rows: &[Row]) -> Option<&'static str> {
     for row in rows {
-        if !matches!(is_so(alloc, command, row), Ok(true)) {
+        if !matches!(is_settled(alloc, command, row), Ok(true)) {
             return Some(row.0);
         }
     }
