@@ -1,5 +1,5 @@
 -- Where the canonical layouts of picked slots fit.
-use Rattle.std.proofs.Common.{◌≡◌, ℕ, ◌+◌, ◌<◌, ◌^◌, cond, pos, Bool, List, length, map, sum, flat_map, ap, sym, ◌∙◌, subst, arith, Option}
+use Rattle.std.proofs.Common.{◌≡◌, ℕ, ◌<◌, ◌^◌, cond, pos, Bool, List, length, map, sum, flat_map, ap, sym, ◌∙◌, subst, arith, Option}
 use Rattle.std.specs.List.{AllByRecursion}
 use Rattle.std.proofs.lemmas.List.{length-map}
 use Rattle.arrow_buffers.specs.Bits.{Bits}

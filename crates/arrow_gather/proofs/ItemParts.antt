@@ -1,6 +1,5 @@
 -- What lists have of picked slots, from the parts of a node of lists.
 use Rattle.std.proofs.Common.{◌≡◌, ℕ, ◌<◌, ℤ, List, flat_map, map, sum, ap, sym, ◌∙◌, subst, Option}
-use Rattle.std.specs.Prelude.{pred}
 use Rattle.arrow_buffers.specs.Bits.{Bits}
 use Rattle.arrow_types.specs.Select.{nat_of}
 use Rattle.arrow_layout.specs.Canon.{offsets}

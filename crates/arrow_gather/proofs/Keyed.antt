@@ -1,7 +1,6 @@
 -- The canonical dictionary of picked slots, by its keys and values.
-use Rattle.std.proofs.Common.{◌≡◌, ℕ, zero, suc, ◌<◌, ◌≤◌, ◌^◌, ℤ, pos, Bool, true, false, cond, List, [], ◌∷◌, length, map, get_or, refl, ap, ap₂, sym, ◌∙◌, subst, arith, Option, Some, None}
+use Rattle.std.proofs.Common.{◌≡◌, ℕ, ◌<◌, ◌≤◌, ℤ, pos, Bool, true, false, cond, List, [], ◌∷◌, length, map, refl, ap, sym, ◌∙◌, subst, arith, Option, Some, None}
 use Rattle.std.specs.List.{AllByRecursion, list_all}
-use Rattle.std.proofs.lemmas.Bool.{false≢true}
 use Rattle.std.proofs.lemmas.List.{length-map}
 use Rattle.arrow_buffers.specs.Bits.{Bits, plain}
 use Rattle.arrow_flat.proofs.Lists.{all_weaker}
@@ -10,27 +9,27 @@ use Rattle.arrow_flat.specs.Slots.{Slot, null, is_valid}
 use Rattle.arrow_types.specs.Capacity.{key_capacity}
 use Rattle.arrow_types.specs.Seen.{seen}
 use Rattle.arrow_types.specs.TypeData.{TypeData}
-use Rattle.arrow_types.specs.Types.{logical_of, integer_type}
+use Rattle.arrow_types.specs.Types.{logical_of}
 use Rattle.arrow_types.specs.declared.datatype.ArrowDataType.{ArrowDataType}
 use Rattle.arrow_types.specs.declared.datatype.IntegerType.{IntegerType}
 use Rattle.arrow_types.specs.declared.datatype.PhysicalType.TheVariants as physical
-use Rattle.arrow_layout.specs.Canon.{canon, distinct, first_place, key_canon, key_in, mask_of}
+use Rattle.arrow_layout.specs.Canon.{canon, distinct, first_place, key_in, mask_of}
 use Rattle.arrow_layout.specs.Denote.{denote, masked, dictionary_slots, validity_of}
-use Rattle.arrow_layout.specs.Fits.{Fits, Small}
+use Rattle.arrow_layout.specs.Fits.{Small}
 use Rattle.arrow_layout.specs.Forms.{dictionaries_of, form_of, key_by, value_by}
-use Rattle.arrow_layout.specs.Layouts.{Layout, dictionaries, type_of, length_of}
+use Rattle.arrow_layout.specs.Layouts.{Layout, type_of, length_of}
 use Rattle.arrow_layout.specs.SlotsOf.{fill}
 use Rattle.arrow_layout.specs.WellFormed.{WellFormed}
 use Rattle.arrow_layout.proofs.ByForm.{canon-form, fill-form}
 use Rattle.arrow_layout.proofs.CanonForms.{place_below, some_keys}
 use Rattle.arrow_layout.proofs.CanonLengths.{length-canon}
-use Rattle.arrow_layout.proofs.Distinct.{all_distinct, all_taken}
+use Rattle.arrow_layout.proofs.Distinct.{all_taken}
 use Rattle.arrow_meaning.specs.Nodes.{AreKeysBelow, IsStoredAs, dictionary_layout, key_layout, key_number, key_numbers, key_type_of}
 use Rattle.arrow_meaning.specs.declared.keys.KeyNode.{KeyNode}
 use Rattle.arrow_meaning.specs.declared.keys.KeyNode.TheVariants as keys
 use Rattle.arrow_meaning.proofs.NullArrays.{same_form, same_physical}
 use Rattle.arrow_choice.proofs.DictionaryNodes.{dictionary_form}
-use Rattle.arrow_canon.specs.Picks.{pick, picks, picked, IsPlace, ArePlaces}
+use Rattle.arrow_canon.specs.Picks.{pick, picks, picked}
 use Rattle.arrow_canon.specs.Runs.{AreWithin, canon_of_runs, places}
 use Rattle.arrow_canon.specs.declared.run.Run.{Run}
 use Rattle.arrow_canon.proofs.Places.{places_within}

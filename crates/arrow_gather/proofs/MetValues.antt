@@ -1,5 +1,5 @@
 -- The distinct values that were met, after one slot more.
-use Rattle.std.proofs.Common.{◌≡◌, ℕ, zero, suc, ◌+◌, ◌<◌, Bool, true, false, cond, List, [], ◌∷◌, ◌++◌, length, get_or, Option, Some, None, refl, ap, ap₂, sym, ◌∙◌, subst, arith}
+use Rattle.std.proofs.Common.{◌≡◌, ℕ, zero, suc, ◌+◌, ◌<◌, Bool, true, false, cond, List, [], ◌∷◌, ◌++◌, length, get_or, Option, Some, None, ◌⊎◌, inl, inr, ⊎_elim, replicate, set, refl, ap, ap₂, sym, ◌∙◌, subst, arith}
 use Rattle.std.specs.Prelude.{not, unwrap_or, is_some, nat_eq}
 use Rattle.std.specs.BTreeMap.{btree_map_len, get_by, insert_entry, is_at}
 use Rattle.std.specs.Cmp.Lexicographic.{pointwise, slice_cmp}
@@ -25,10 +25,11 @@ use Rattle.arrow_canon.specs.Picks.{pick, picks}
 use Rattle.arrow_canon.specs.Runs.{places, places_of, AreWithin, IsWithin}
 use Rattle.arrow_canon.specs.declared.run.Run.{Run}
 use Rattle.arrow_canon.specs.declared.run.Run.TheVariants.{Slots}
-use Rattle.arrow_gather.specs.Met.{AreKeyed, AreMet, IsKeyAt, IsKeyOf, place_among, source_at}
+use Rattle.arrow_gather.specs.Met.{AreKeyed, AreKeysOf, AreMet, IsKeyAt, IsKeyOf, place_among, source_at}
 use Rattle.arrow_gather.specs.declared.distinct_values.DistinctValues.{DistinctValues}
 use Rattle.arrow_gather.specs.declared.distinct_values.KeyedSlots.{KeyedSlots}
 use Rattle.arrow_gather.specs.declared.distinct_values.Source.{Source}
+use Rattle.arrow_gather.specs.declared.position_table.PositionTable.{PositionTable}
 use Rattle.arrow_gather.specs.contracts.distinct_values.SourceOrd.TheImpl as order
 use Rattle.arrow_gather.proofs.MapEntries.{found, inserted, is_key, is_other}
 use Rattle.arrow_gather.proofs.Seen.{distinct_more, is_new, key_seen, key_stays, keys_more, bits_more, place_last, place_nowhere, place_other, place_there}
@@ -143,6 +144,39 @@ module _ (l : Layout) (d : List Slot) where
         spelled = λ j g. ap (λ t. get_by (λ k. slice_cmp nat_cmp (slot_bytes (slot_at l j)) k.items) t) p ∙ m.spelled j g;
         known = subst (AllByRecursion (λ e. IsKeyAt l d e.0 e.1)) (sym q) (inserted order.ghosts.cmp exact (IsKeyAt l d) s k v.known.entries m.known here);
       }
+
+-- ---- the keys that are known of positions
+
+get_or-none : {X : Type 0} (n i : ℕ) → get_or {A = Option X} (replicate n None) i None ≡ None
+get_or-none zero i = refl
+get_or-none (suc n) zero = refl
+get_or-none (suc n) (suc i) = get_or-none n i
+
+pub none_known : (l : Layout) (d : List Slot) (t : PositionTable (Option ℕ)) (n : ℕ) → t.known.items ≡ replicate n None → AreKeysOf l d t
+none_known l d t n e i k h g = absurd (none (sym (get_or-none n i) ∙ sym (ap (λ ks. get_or ks i None) e) ∙ g)) where
+  none : None ≡ Some k → ⊥
+  none e = cc
+
+pub known_stay : (l : Layout) (d : List Slot) (x : Slot) (t : PositionTable (Option ℕ)) → AreKeysOf l d t → AreKeysOf l (seen_with d x) t
+known_stay l d x t f i k h g = key_stays d x (slot_at l i) k (f i k h g)
+
+-- what is known after a key is set was set or was known
+set_known : {X : Type 0} (xs : List (Option X)) (i j : ℕ) (x y : X) → get_or (set xs i (Some x)) j None ≡ Some y → ((j ≡ i) × (x ≡ y)) ⊎ (get_or xs j None ≡ Some y)
+set_known [] i j x y h = inr h
+set_known (z ∷ zs) zero zero x y h = inl (refl, some h) where
+  some : Some x ≡ Some y → x ≡ y
+  some h = cc
+set_known (z ∷ zs) zero (suc j) x y h = inr h
+set_known (z ∷ zs) (suc i) zero x y h = inr h
+set_known (z ∷ zs) (suc i) (suc j) x y h = ⊎_elim (λ p. inl (ap suc p.0, p.1)) (λ g. inr g) (set_known zs i j x y h)
+
+pub known_more : (l : Layout) (d : List Slot) (t u : PositionTable (Option ℕ)) (i : ℕ) (k : Option ℕ) → AreKeysOf l d t → IsKeyOf d (slot_at l i) k
+    → u.known.items ≡ set t.known.items i (Some k) → AreKeysOf l d u
+known_more l d t u i k f key e j m h g =
+    ⊎_elim
+    (λ (p : (j ≡ i) × (k ≡ m)). subst (λ n. IsKeyOf d (slot_at l j) n) p.1 (subst (λ n. IsKeyOf d (slot_at l n) k) (sym p.0) key))
+    (λ (q : get_or t.known.items j None ≡ Some m). f j m h q)
+    (set_known t.known.items i j k m (sym (ap (λ ks. get_or ks j None) e) ∙ g))
 
 -- ---- the keys of slots
 

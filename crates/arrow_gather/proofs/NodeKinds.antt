@@ -1,5 +1,5 @@
 -- What a node is, from the variants that it is not.
-use Rattle.std.proofs.Common.{◌≡◌, ℕ, List, refl, sym, Option, Some, None, Result, Ok, Err, IfOk}
+use Rattle.std.proofs.Common.{◌≡◌, refl, sym, Some, None, Result, Ok, Err, IfOk}
 use Rattle.arrow_layout.specs.OfValues.{IsOfValues}
 use Rattle.arrow_meaning.specs.Nodes.{IsSoundNode, layout_of, node_physical, primitive_node_layout}
 use Rattle.arrow_meaning.specs.declared.node.Node.{Node}

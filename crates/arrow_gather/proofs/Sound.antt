@@ -6,7 +6,6 @@ use Rattle.arrow_types.specs.TypeData.{TypeData}
 use Rattle.arrow_types.specs.TypeData as T
 use Rattle.arrow_types.specs.Types.{logical_of}
 use Rattle.arrow_flat.specs.Slots.{Slot}
-use Rattle.arrow_flat.proofs.Lists.{all_weaker}
 use Rattle.arrow_layout.specs.Canon.{canon}
 use Rattle.arrow_layout.specs.Denote.{denote}
 use Rattle.arrow_layout.specs.Fits.{Fits, Small}

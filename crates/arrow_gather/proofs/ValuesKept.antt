@@ -1,6 +1,5 @@
 -- The canonical layout of a layout of values is one of values.
 use Rattle.std.proofs.Common.{sym, subst}
-use Rattle.arrow_layout.specs.Canon.{canon}
 use Rattle.arrow_layout.specs.Denote.{denote}
 use Rattle.arrow_layout.specs.Layouts.{Layout, nulls, booleans, primitives, binaries, fixed_size_binaries, views, lists, fixed_size_lists, structs, sparse_unions, dense_unions, dictionaries}
 use Rattle.arrow_layout.specs.OfValues.{IsOfValues}

@@ -17,6 +17,7 @@ use Rattle.arrow_canon.specs.Runs.{places, AreWithin}
 use Rattle.arrow_gather.specs.declared.distinct_values.DistinctValues.{DistinctValues}
 use Rattle.arrow_gather.specs.declared.distinct_values.KeyedSlots.{KeyedSlots}
 use Rattle.arrow_gather.specs.declared.distinct_values.Source.{Source}
+use Rattle.arrow_gather.specs.declared.position_table.PositionTable.{PositionTable}
 use Rattle.arrow_gather.specs.declared.distinct_values.Source.TheVariants as source
 
 -- Where the value at slot i stands: the bytes that a long view names, and else the slot.
@@ -44,6 +45,10 @@ key_place d x = cond (is_valid x) (first_place x d) 0
 -- The key is that of each valid slot whose value stands there.
 abbrev pub IsKeyAt : Layout → List Slot → Source → Option ℕ → Type 0
 IsKeyAt l d s k = (i : ℕ) → i < length_of l → valid_in l i ≡ true → source_at l i ≡ s → IsKeyOf d (slot_at l i) k
+
+-- What is known of a position is the key of the slot there.
+abbrev pub AreKeysOf : Layout → List Slot → PositionTable (Option ℕ) → Type 0
+AreKeysOf l d t = (i : ℕ) (k : Option ℕ) → i < length_of l → get_or t.known.items i None ≡ Some k → IsKeyOf d (slot_at l i) k
 
 -- The distinct values are those at the positions where each was met first, each has its place under its spelling, and
 -- what was met has its key.

@@ -2,16 +2,17 @@
 ghost use Rattle.std.specs.Prelude.{◌≡◌, ◌<◌, ◌++◌, ◌∷◌, [], List, not, IfOk, OnOk};
 ghost use Rattle.arrow_buffers.specs.Bits.{plain, needed_mask};
 ghost use Rattle.arrow_flat.specs.Slots.{Slot, is_valid, null};
-ghost use Rattle.arrow_layout.specs.Canon.{seen_with};
+ghost use Rattle.arrow_layout.specs.Canon.{distinct, seen_with};
 ghost use Rattle.arrow_layout.specs.Denote.{denote};
 ghost use Rattle.arrow_layout.specs.Layouts.{Layout, length_of};
 ghost use Rattle.arrow_layout.specs.Spelling.{slot_bytes};
 ghost use Rattle.arrow_scalar.specs.Spellings.{slot_at};
 ghost use Rattle.arrow_gather.specs.Met as met;
 ghost use Rattle.arrow_canon.specs.Picks.{pick, picks, IsPlace, ArePlaces};
-ghost use Rattle.arrow_gather.specs.Met.{AreKeyed, AreMet, IsKeyOf};
+ghost use Rattle.arrow_gather.specs.Met.{AreKeyed, AreKeysOf, AreMet, IsKeyOf};
 
 use crate::dictionary::DictionaryParts;
+use crate::position_table::PositionTable;
 use crate::spelling_room::ask_for_room;
 use arrow_buffers::MutableBitmap;
 use arrow_canon::Run;
@@ -85,27 +86,40 @@ impl DistinctValues {
     }
 
     /// The position of the value at a position among the distinct ones, where it stands last if it
-    /// wasn't met before; none for a null, and where there is no position.
+    /// wasn't met before; none for a null, and where there is no position. The table has the keys of
+    /// positions that were met, as far as it reaches.
     fn key_at(
         &mut self,
         alloc: Global,
         array: &ArrayRef,
+        keys: &mut PositionTable<Option<usize>>,
         position: Option<usize>,
     ) -> Mem<Option<usize>>
         requires { IsPlace (length_of array.now) position }
         ensures met { OnOk result ((d : List Slot) → AreMet array.now d self.old
+            → AreKeysOf array.now d keys.old
             → AreMet array.now (seen_with d (pick null (denote array.now) position)) self.new) }
+        ensures known { OnOk result ((d : List Slot) → AreMet array.now d self.old
+            → AreKeysOf array.now d keys.old
+            → AreKeysOf array.now (seen_with d (pick null (denote array.now) position)) keys.new) }
         ensures key { IfOk result (λ k. (d : List Slot) → AreMet array.now d self.old
+            → AreKeysOf array.now d keys.old
             → IsKeyOf (seen_with d (pick null (denote array.now) position))
             (pick null (denote array.now) position) k) }
     {
-        match position {
-            Some(i) => self.key_of(alloc, array, i),
-            None => Ok(None),
+        let Some(i) = position else {
+            return Ok(None);
+        };
+        if let Some(key) = keys.get(i) {
+            return Ok(key);
         }
+        let key = self.key_of(alloc, array, i)?;
+        keys.set(i, key);
+        Ok(key)
     }
 
-    /// The same of slot i.
+    /// The position of the value of slot i among the distinct ones, where it stands last if it wasn't
+    /// met before; none for a null.
     fn key_of(&mut self, alloc: Global, array: &ArrayRef, i: usize) -> Mem<Option<usize>>
         requires { i < length_of array.now }
         ensures met { OnOk result ((d : List Slot) → AreMet array.now d self.old
@@ -185,15 +199,41 @@ impl KeyedSlots {
         }
     }
 
-    /// Appends the slot of the array at a position, or a null where there is none.
-    fn push(&mut self, alloc: Global, array: &ArrayRef, position: Option<usize>) -> Mem<()>
+    /// Appends the slot of the array at a position, or a null where there is none. The table has the
+    /// keys of positions that were met.
+    fn push(
+        &mut self,
+        alloc: Global,
+        array: &ArrayRef,
+        keys: &mut PositionTable<Option<usize>>,
+        position: Option<usize>,
+    ) -> Mem<()>
         requires { IsPlace (length_of array.now) position }
-        ensures { OnOk result ((s : List Slot) → AreKeyed array.now s self.old
+        ensures keyed { OnOk result ((s : List Slot) → AreKeyed array.now s self.old
+            → AreKeysOf array.now (distinct s) keys.old
             → AreKeyed array.now (s ++ pick null (denote array.now) position ∷ []) self.new) }
+        ensures known { OnOk result ((s : List Slot) → AreKeyed array.now s self.old
+            → AreKeysOf array.now (distinct s) keys.old
+            → AreKeysOf array.now (distinct (s ++ pick null (denote array.now) position ∷ []))
+            keys.new) }
     {
-        let key = self.values.key_at(alloc, array, position)?;
+        let key = self.values.key_at(alloc, array, keys, position)?;
         self.keys.push(key.unwrap_or(0))?;
         self.validity.push(key.is_some())?;
+        Ok(())
+    }
+
+    /// Appends the slots of the array at positions, and a null where there is none.
+    fn extend(&mut self, alloc: Global, array: &ArrayRef, positions: &[Option<usize>]) -> Mem<()>
+        requires { ArePlaces (length_of array.now) positions.now }
+        ensures { OnOk result ((s : List Slot) → AreKeyed array.now s self.old
+            → AreKeyed array.now (s ++ picks null (denote array.now) positions.now) self.new) }
+    {
+        let mut keys = PositionTable::new(alloc, array.len().min(positions.len()))?;
+        self.keys.reserve(positions.len())?;
+        for position in positions {
+            self.push(alloc, array, &mut keys, *position)?;
+        }
         Ok(())
     }
 
@@ -209,10 +249,7 @@ impl KeyedSlots {
     {
         ask_for_room(alloc, array, positions)?;
         let mut slots = KeyedSlots::new(alloc);
-        slots.keys.reserve(positions.len())?;
-        for position in positions {
-            slots.push(alloc, array, *position)?;
-        }
+        slots.extend(alloc, array, positions)?;
         Ok(slots)
     }
 

@@ -10,6 +10,7 @@ mod list;
 mod made;
 mod normal;
 mod piece;
+mod position_table;
 mod spelling_room;
 
 pub use canonical_test::is_canonical;

@@ -4,6 +4,7 @@ ghost use Rattle.arrow_layout.specs.Layouts.{length_of};
 ghost use Rattle.arrow_canon.specs.Picks.{ArePlaces};
 
 use crate::distinct_values::{Source, source_at};
+use crate::position_table::PositionTable;
 use arrow_meaning::ArrayRef;
 use arrow_scalar::spelling_length;
 use arrow_types::Mem;
@@ -25,11 +26,12 @@ pub(crate) fn ask_for_room(alloc: Global, array: &ArrayRef, positions: &[Option<
 fn room_of_spellings(alloc: Global, array: &ArrayRef, positions: &[Option<usize>]) -> Mem<usize>
     requires { ArePlaces (length_of array.now) positions.now }
 {
-    let mut counted = BTreeMap::new(alloc);
+    let mut counted = PositionTable::new(alloc, array.len().min(positions.len()))?;
+    let mut sources = BTreeMap::new(alloc);
     let mut length = 0;
     for position in positions {
         if let Some(i) = position {
-            length = length_with(alloc, &mut counted, array, *i, length)?;
+            length = length_with(alloc, &mut counted, &mut sources, array, *i, length)?;
         }
     }
     Ok(length)
@@ -38,18 +40,23 @@ fn room_of_spellings(alloc: Global, array: &ArrayRef, positions: &[Option<usize>
 /// The count with the spelling of slot i, whose value counts once.
 fn length_with(
     alloc: Global,
-    counted: &mut BTreeMap<Source, ()>,
+    counted: &mut PositionTable<()>,
+    sources: &mut BTreeMap<Source, ()>,
     array: &ArrayRef,
     i: usize,
     length: usize,
 ) -> Mem<usize>
     requires { i < length_of array.now }
 {
-    let source = source_at(array, i);
-    if counted.contains_key(&source) {
+    if counted.get(i).is_some() {
         return Ok(length);
     }
-    counted.insert(source, ())?;
+    counted.set(i, ());
+    let source = source_at(array, i);
+    if sources.contains_key(&source) {
+        return Ok(length);
+    }
+    sources.insert(source, ())?;
     match length.checked_add(spelling_length(alloc, array, i)?) {
         Some(length) => Ok(length),
         None => Err(AllocError),

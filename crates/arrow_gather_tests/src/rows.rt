@@ -3,8 +3,10 @@ use crate::fixtures::{
     booleans, dictionaries, fixed_size_lists, large_lists, numbers, structs, unions,
 };
 use arrow_gather::normalized;
-use arrow_meaning::ArrayRef;
+use arrow_meaning::{ArrayRef, TypedArray};
+use arrow_nested::NullArray;
 use arrow_scalar::same_layout;
+use arrow_types::ArrowDataType;
 use std::alloc::Global;
 use std::test::Fail;
 
@@ -29,9 +31,15 @@ enum Row {
     Dictionaries,
     /// The same of values that are lists, one of them null.
     DictionariesOfLists,
+    /// A value that several keys name, and a null that several name.
+    RepeatedKeys,
+    /// Fewer keys than values.
+    FewKeys,
+    /// More values than memory has bytes, all of them null.
+    DictionariesOfNulls,
 }
 
-const ROWS: [Row; 9] = [
+const ROWS: [Row; 12] = [
     Row::Lists,
     Row::EmptyLists,
     Row::FixedSizeLists,
@@ -41,6 +49,9 @@ const ROWS: [Row; 9] = [
     Row::IdentifiedUnions,
     Row::Dictionaries,
     Row::DictionariesOfLists,
+    Row::RepeatedKeys,
+    Row::FewKeys,
+    Row::DictionariesOfNulls,
 ];
 
 /// The bits in which the second of three is unset.
@@ -139,6 +150,35 @@ fn list_dictionary_row(alloc: Global, is_canonical: bool) -> Result<ArrayRef, Fa
     dictionaries(alloc, &[3, 0, 1, 2], None, values)
 }
 
+fn repeated_row(alloc: Global, is_canonical: bool) -> Result<ArrayRef, Fail> {
+    if is_canonical {
+        let values = numbers(alloc, &[5, 4], None)?;
+        let bits = [false, true, true, true, false, true];
+        return dictionaries(alloc, &[0, 0, 1, 0, 0, 0], Some(&bits), values);
+    }
+    let bits = [true, true, true, false];
+    let values = numbers(alloc, &[4, 5, 5, 6], Some(&bits))?;
+    dictionaries(alloc, &[3, 2, 0, 2, 3, 1], None, values)
+}
+
+fn few_keys_row(alloc: Global, is_canonical: bool) -> Result<ArrayRef, Fail> {
+    if is_canonical {
+        let values = numbers(alloc, &[9, 8], None)?;
+        return dictionaries(alloc, &[0, 1, 0, 1], None, values);
+    }
+    let values = numbers(alloc, &[7, 8, 7, 9, 8, 9], None)?;
+    dictionaries(alloc, &[5, 1, 3, 1], None, values)
+}
+
+fn null_values_row(alloc: Global, is_canonical: bool) -> Result<ArrayRef, Fail> {
+    let count = if is_canonical { 0 } else { i64::MAX as usize };
+    let values = NullArray::try_new(alloc, ArrowDataType::Null, count)?.boxed();
+    if is_canonical {
+        return dictionaries(alloc, &[0, 0, 0], Some(&[false, false, false]), values);
+    }
+    dictionaries(alloc, &[2, i32::MAX, 2], None, values)
+}
+
 /// The array of a row, or the canonical array of its slots.
 fn array_of(alloc: Global, row: Row, is_canonical: bool) -> Result<ArrayRef, Fail> {
     match row {
@@ -151,6 +191,9 @@ fn array_of(alloc: Global, row: Row, is_canonical: bool) -> Result<ArrayRef, Fai
         Row::IdentifiedUnions => identified_row(alloc),
         Row::Dictionaries => dictionary_row(alloc, is_canonical),
         Row::DictionariesOfLists => list_dictionary_row(alloc, is_canonical),
+        Row::RepeatedKeys => repeated_row(alloc, is_canonical),
+        Row::FewKeys => few_keys_row(alloc, is_canonical),
+        Row::DictionariesOfNulls => null_values_row(alloc, is_canonical),
     }
 }
 

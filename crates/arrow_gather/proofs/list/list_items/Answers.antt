@@ -1,4 +1,4 @@
-use Rattle.std.proofs.Common.{◌≡◌, ◌<◌, map, sum, ap, sym, subst}
+use Rattle.std.proofs.Common.{◌<◌, map, sum, ap, sym, subst}
 use Rattle.std.specs.Option.{option_copied}
 use Rattle.arrow_types.specs.Seen.{seen}
 use Rattle.arrow_types.specs.Select.{nat_of}

@@ -1,7 +1,6 @@
-use Rattle.std.proofs.Common.{ℕ, List, Option, pos, ◌+◌, length, get_or, refl, sym, ap, ap₂, ◌∙◌, ◌≤◌, ◌<◌, ◌≡◌, ◌^◌, true, [], map, flat_map, sum, subst, arith, rules, IfOk}
-use Rattle.std.specs.Prelude.{IsErrOf, pred}
+use Rattle.std.proofs.Common.{ℕ, List, Option, pos, ◌+◌, length, get_or, refl, sym, ap, ap₂, ◌∙◌, ◌≤◌, ◌<◌, ◌≡◌, ◌^◌, [], map, flat_map, subst, arith, rules, IfOk}
+use Rattle.std.specs.Prelude.{IsErrOf}
 use Rattle.std.specs.List.{AllByRecursion}
-use Rattle.std.specs.Option.{option_copied}
 use Rattle.std.proofs.lemmas.List.{length-map}
 use Rattle.std.proofs.lemmas.Result.{err_from_is_err_and}
 use Rattle.arrow_types.specs.Carried.{IsBelow}
@@ -27,7 +26,7 @@ use Rattle.arrow_canon.specs.Picks.{picked, picked_mask}
 use Rattle.arrow_canon.specs.Runs.{AreWithin, canon_of_runs, places}
 use Rattle.arrow_canon.proofs.Counts.{runs_fit}
 use Rattle.arrow_canon.proofs.Places.{places_within}
-use Rattle.arrow_items.specs.Items.{chunk_places, item_count, item_places, kept_places}
+use Rattle.arrow_items.specs.Items.{chunk_places, item_count, kept_places}
 use Rattle.arrow_items.specs.Kinds.{child_picked, children_picked, structs_picked}
 use Rattle.arrow_items.specs.Unions.{children_by, dense_picked, dense_places, fields_picked, fill_field, numbers_picked, sparse_children, sparse_picked, sparse_place}
 use Rattle.arrow_gather.specs.Distincts.{picked_values}

@@ -1,4 +1,4 @@
-use Rattle.std.proofs.Common.{◌≡◌, ◌+◌, ◌*◌, map, flat_map, take}
+use Rattle.std.proofs.Common.{◌≡◌, ◌+◌, ◌*◌, map, take}
 use Rattle.arrow_types.specs.Seen.{seen}
 use Rattle.arrow_types.specs.Select.{nat_of}
 use Rattle.arrow_layout.specs.Fits.{AllFit}

@@ -1,4 +1,4 @@
-use Rattle.std.proofs.Common.{◌≡◌, IfOk, sym, ap, subst, arith}
+use Rattle.std.proofs.Common.{◌≡◌, IfOk, sym, subst}
 use Rattle.std.specs.Prelude.{IsErrOf, Result, Ok, Err}
 use Rattle.arrow_types.specs.Seen.{seen}
 use Rattle.arrow_types.specs.declared.error.GrowError.TheVariants as grow
