@@ -1,6 +1,7 @@
 pub mod BitValues
 pub mod Copies
 pub mod Counts
+pub mod FixedSizes
 pub mod Growths
 pub mod Making
 pub mod Numbers

@@ -3,6 +3,7 @@
 #![tactic(auto)]
 
 mod boolean;
+mod fixed_size_binary;
 mod flat;
 mod growable;
 mod mask;
@@ -11,6 +12,7 @@ mod sources;
 mod values;
 
 pub use boolean::{GrowableBoolean, GrowingBooleans};
+pub use fixed_size_binary::{GrowableFixedSizeBinary, GrowingFixedSizeBinaries};
 pub use flat::FlatGrowable;
 pub use growable::Growable;
 pub use primitive::{GrowablePrimitive, GrowingPrimitives};
