@@ -4,6 +4,7 @@ pub mod Counts
 pub mod FixedSizes
 pub mod Growths
 pub mod Making
+pub mod NullRuns
 pub mod Numbers
 pub mod Rooms
 pub mod SourceSlots
