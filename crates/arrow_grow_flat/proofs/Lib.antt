@@ -3,6 +3,7 @@ pub mod Copies
 pub mod Counts
 pub mod FixedSizes
 pub mod Growths
+pub mod JoinedBits
 pub mod Making
 pub mod NullRuns
 pub mod Numbers

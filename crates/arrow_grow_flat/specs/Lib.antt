@@ -3,4 +3,5 @@ pub mod Kinds
 pub mod Masks
 pub mod Nulls
 pub mod Tidy
+pub mod Validities
 pub mod Values

@@ -3,6 +3,7 @@
 #![tactic(auto)]
 
 mod boolean;
+mod concatenate;
 mod fixed_size_binary;
 mod flat;
 mod growable;
@@ -13,6 +14,7 @@ mod sources;
 mod values;
 
 pub use boolean::{GrowableBoolean, GrowingBooleans};
+pub use concatenate::concatenate_validities;
 pub use fixed_size_binary::{GrowableFixedSizeBinary, GrowingFixedSizeBinaries};
 pub use flat::FlatGrowable;
 pub use growable::Growable;
