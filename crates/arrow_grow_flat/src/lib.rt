@@ -2,6 +2,7 @@
 //! and the growing values of each kind.
 #![tactic(auto)]
 
+mod binary;
 mod boolean;
 mod concatenate;
 mod fixed_size_binary;
@@ -11,8 +12,10 @@ mod mask;
 mod null;
 mod primitive;
 mod sources;
+mod spans;
 mod values;
 
+pub use binary::{GrowableBinary, GrowableUtf8, GrowingBinaries};
 pub use boolean::{GrowableBoolean, GrowingBooleans};
 pub use concatenate::concatenate_validities;
 pub use fixed_size_binary::{GrowableFixedSizeBinary, GrowingFixedSizeBinaries};
