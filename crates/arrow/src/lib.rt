@@ -116,8 +116,9 @@ pub mod array {
     /// Arrays that grow by slots of others.
     pub mod growable {
         pub use arrow_grow_flat::{
-            FlatGrowable, Growable, GrowableBoolean, GrowablePrimitive, GrowableValues,
-            GrowingBooleans, GrowingPrimitives,
+            FlatGrowable, Growable, GrowableBinary, GrowableBoolean, GrowableFixedSizeBinary,
+            GrowableNull, GrowablePrimitive, GrowableUtf8, GrowableValues, GrowingBinaries,
+            GrowingBooleans, GrowingFixedSizeBinaries, GrowingPrimitives,
         };
     }
 }
@@ -125,6 +126,14 @@ pub mod array {
 /// Validity bitmaps, and the values of arrays of booleans.
 pub mod bitmap {
     pub use arrow_buffers::{Bitmap, BitmapBuilder, BitmapIter, MutableBitmap};
+}
+
+/// What is computed of arrays.
+pub mod compute {
+    /// Arrays one after another.
+    pub mod concatenate {
+        pub use arrow_grow_flat::concatenate_validities;
+    }
 }
 
 /// Shared memory.

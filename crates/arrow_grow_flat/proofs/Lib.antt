@@ -1,8 +1,13 @@
+pub mod Binaries
 pub mod BitValues
 pub mod Copies
 pub mod Counts
+pub mod FixedSizes
 pub mod Growths
+pub mod JoinedBits
+pub mod JoinedSpans
 pub mod Making
+pub mod NullRuns
 pub mod Numbers
 pub mod Rooms
 pub mod SourceSlots

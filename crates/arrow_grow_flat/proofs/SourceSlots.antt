@@ -94,7 +94,7 @@ slot_bits l w v = ap (map is_valid) (denote-under l) ∙ bits_by (validity_of l)
 pub part-map : {A B : Type 0} (f : A → B) (o n : ℕ) (xs : List A) → part o n (map f xs) ≡ map f (part o n xs)
 part-map f o n xs = ap (take n) (drop-map f o xs) ∙ take-map f n (drop o xs)
 
-part-replicate : {A : Type 0} (o n len : ℕ) (x : A) → o + n ≤ len → part o n (replicate len x) ≡ replicate n x
+pub part-replicate : {A : Type 0} (o n len : ℕ) (x : A) → o + n ≤ len → part o n (replicate len x) ≡ replicate n x
 part-replicate o n len x h = rw (drop-replicate o len x) (take-replicate n (len - o) x (omega (arith, h)))
 
 bits_part : (m : Option Bits) (o n len : ℕ) → o + n ≤ len → part o n (mask_bits m len) ≡ bits_in m o n

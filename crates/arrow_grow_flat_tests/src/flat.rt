@@ -15,7 +15,7 @@ use std::alloc::Global;
 use std::test::Fail;
 
 /// Days, whose second slot is null where there is a mask.
-fn days(alloc: Global, items: &[i32], masked: Option<usize>) -> Result<Int32Array, Fail>
+pub(crate) fn days(alloc: Global, items: &[i32], masked: Option<usize>) -> Result<Int32Array, Fail>
     ensures { IfOk result (λ a. a.dtype ≡ dtype.Date32) }
 {
     let values = buffer_of(alloc, items)?;
@@ -33,7 +33,7 @@ fn bits(alloc: Global, items: &[bool], masked: Option<usize>) -> Result<BooleanA
 }
 
 /// Whether it says that it was made of an array of three slots and one of two, and takes nulls.
-fn is_made<G: Growable>(growable: &G) -> bool {
+pub(crate) fn is_made<G: Growable>(growable: &G) -> bool {
     growable.array_count() == 2
         && growable.array_len(0) == 3
         && growable.array_len(1) == 2
@@ -44,7 +44,7 @@ fn is_made<G: Growable>(growable: &G) -> bool {
 
 /// The slots 1 and 2 of the first array, a null, and twice those of the second; None where it
 /// isn't made of these.
-fn grown<G: Growable>(growable: &mut G) -> Result<Option<ArrayRef>, GrowError> {
+pub(crate) fn grown<G: Growable>(growable: &mut G) -> Result<Option<ArrayRef>, GrowError> {
     if growable.is_failed() || !growable.takes_nulls() || growable.array_count() != 2 {
         return Ok(None);
     }
@@ -58,7 +58,7 @@ fn grown<G: Growable>(growable: &mut G) -> Result<Option<ArrayRef>, GrowError> {
 }
 
 /// Whether more copies than a usize counts are refused, and it says that it failed.
-fn overflows<G: Growable>(growable: &mut G) -> bool {
+pub(crate) fn overflows<G: Growable>(growable: &mut G) -> bool {
     if growable.is_failed() || growable.array_count() != 2 || growable.array_len(0) < 3 {
         return false;
     }

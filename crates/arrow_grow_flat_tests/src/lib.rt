@@ -2,4 +2,10 @@
 #![tactic(auto)]
 
 #[cfg(test)]
+mod bytes;
+#[cfg(test)]
+mod concatenate;
+#[cfg(test)]
 mod flat;
+#[cfg(test)]
+mod null;
