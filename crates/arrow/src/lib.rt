@@ -116,8 +116,8 @@ pub mod array {
     /// Arrays that grow by slots of others.
     pub mod growable {
         pub use arrow_grow_flat::{
-            FlatGrowable, Growable, GrowableBoolean, GrowablePrimitive, GrowableValues,
-            GrowingBooleans, GrowingPrimitives,
+            FlatGrowable, Growable, GrowableBinaryViewArray, GrowableBoolean, GrowablePrimitive,
+            GrowableValues, GrowingBooleans, GrowingPrimitives, GrowingViews,
         };
     }
 }

@@ -5,6 +5,8 @@ pub mod Growths
 pub mod Making
 pub mod Numbers
 pub mod Rooms
+pub mod SharedViews
 pub mod SourceSlots
 pub mod Stands
 pub mod Steps
+pub mod ViewValues

@@ -9,9 +9,11 @@ mod mask;
 mod primitive;
 mod sources;
 mod values;
+mod view;
 
 pub use boolean::{GrowableBoolean, GrowingBooleans};
 pub use flat::FlatGrowable;
 pub use growable::Growable;
 pub use primitive::{GrowablePrimitive, GrowingPrimitives};
 pub use values::GrowableValues;
+pub use view::{GrowableBinaryViewArray, GrowingViews};
