@@ -4,6 +4,7 @@ pub mod Counts
 pub mod Growths
 pub mod Making
 pub mod Numbers
+pub mod PackedValues
 pub mod Rooms
 pub mod SharedViews
 pub mod SourceSlots

@@ -1,23 +1,24 @@
 -- Views of arrays among the buffers of all, and what they stand for.
-use Rattle.std.proofs.Common.{◌≡◌, ℕ, zero, suc, ◌+◌, ◌-◌, ◌<◌, ◌≤◌, ◌^◌, Bool, true, false, cond, List, [], ◌∷◌, ◌++◌, flat_map, length, map, take, drop, get_or, replicate, sum, Option, Some, None, refl, ap, ap₂, sym, ◌∙◌, subst, arith, length-append, append_assoc}
+use Rattle.std.proofs.Common.{◌≡◌, ℕ, zero, suc, ◌+◌, ◌-◌, ◌<◌, ◌≤◌, ◌^◌, Bool, true, false, cond, List, [], ◌∷◌, ◌++◌, length, map, take, drop, get_or, slice_get, replicate, Option, Some, None, refl, ap, ap₂, sym, ◌∙◌, subst, arith, length-append, append_assoc}
 use Rattle.std.specs.Prelude.{IsUtf8}
 use Rattle.std.specs.List.{AllByRecursion}
-use Rattle.std.proofs.lemmas.List.{get_or-append-add, get_or_append_left, get_or-drop, get_or-map, length-drop, length-map, length-take-le, length-take, map-append, take_more}
-use Rattle.std.proofs.lemmas.List.Sums.{sum_by-cons}
+use Rattle.std.proofs.lemmas.List.{get_or-append-add, get_or_append_left, get_or-drop, get_or-map, length-drop, length-map, length-take-le, length-take, map-append, take-append-drop, take_more}
+use Rattle.std.proofs.lemmas.Grind.{flat_map-append}
 use Rattle.arrow_buffers.specs.Bits.{Bits}
-use Rattle.arrow_types.specs.Seen.{seen}
+use Rattle.arrow_flat.specs.Packs.{view_limit}
 use Rattle.arrow_flat.specs.Pieces.{AreTextsIf}
 use Rattle.arrow_flat.specs.Primitives.{MaskHasLength, valid_at}
-use Rattle.arrow_flat.specs.Slots.{Slot, null, bytes, is_valid}
+use Rattle.arrow_flat.specs.Slots.{Slot, null, bytes}
 use Rattle.arrow_flat.specs.Views.{View, inline, long, IsView, view_bytes, view_length, zero_view}
-use Rattle.arrow_flat.proofs.Lists.{all_join}
-use Rattle.arrow_views.specs.ViewArrays.{AreViews, ViewArray, values_in}
+use Rattle.arrow_flat.proofs.Lists.{all_join, all_map}
+use Rattle.arrow_views.specs.ViewArrays.{AreViews, ViewArray, values_in, values_of}
 use Rattle.arrow_views.specs.ViewParts.{IsPlaced, buffer_of, bytes_of, offset_of, prefix_of}
 use Rattle.arrow_views.proofs.Checks.{prefix_at}
+use Rattle.arrow_views.proofs.Packed.{value_fits as packed_fits}
 use Rattle.arrow_layout.specs.Cut.{part}
 use Rattle.arrow_layout.specs.Denote.{denote, masked, masked_by, view_slots}
 use Rattle.arrow_meaning.specs.Nodes.{view_layout}
-use Rattle.arrow_grow_flat.specs.SharedViews.{IsEmptyValue, buffer_starts, joined_buffers, shifted, slot_view, slot_views}
+use Rattle.arrow_grow_flat.specs.SharedViews.{AreViewsOf, IsEmptyValue, buffer_starts, joined_buffers, shifted, slot_value, slot_values, slot_view, slot_views}
 use Rattle.arrow_grow_flat.specs.Values.{StandsFor, StandFor}
 use Rattle.arrow_grow_flat.proofs.SourceSlots.{all_at}
 use Rattle.arrow_grow_flat.proofs.Stands.{stand_join}
@@ -77,6 +78,15 @@ starts_more arrays i d h = ap (buffer_starts 0) (take_more arrays i d h) ∙ sta
 pub joined_more : (arrays : List ViewArray) (i : ℕ) (d : ViewArray) → i < length arrays → joined_buffers (take (i + 1) arrays) ≡ joined_buffers (take i arrays) ++ (get_or arrays i d).buffers
 joined_more arrays i d h = ap joined_buffers (take_more arrays i d h) ∙ joined_join (take i arrays) (get_or arrays i d)
 
+-- no fewer than those of the arrays up to one
+pub buffers_past : (arrays : List ViewArray) (i : ℕ) (d : ViewArray) → i < length arrays
+    → length (joined_buffers (take i arrays)) + length (get_or arrays i d).buffers ≤ length (joined_buffers arrays)
+buffers_past arrays i d h =
+    let front = take (i + 1) arrays in
+    let all : joined_buffers arrays ≡ joined_buffers front ++ joined_buffers (drop (i + 1) arrays) =
+    ap joined_buffers (sym (take-append-drop (i + 1) arrays)) ∙ flat_map-append (λ (a : ViewArray). a.buffers) front (drop (i + 1) arrays) in
+    omega (arith, ap length all, length-append (joined_buffers front) (joined_buffers (drop (i + 1) arrays)), ap length (joined_more arrays i d h), length-append (joined_buffers (take i arrays)) (get_or arrays i d).buffers)
+
 -- ---- one view
 
 pub nothing_placed : (buffers : List (List ℕ)) → IsView buffers zero_view
@@ -101,6 +111,15 @@ nothing_is buffers (long n p b o) h e =
 pub length_is : (buffers : List (List ℕ)) (v : View) → IsView buffers v → length (view_bytes buffers v) ≡ view_length v
 length_is buffers (inline n bs) h = length-take-le n bs (omega (arith, h.0, h.1))
 length_is buffers (long n p b o) h = let xs = get_or buffers b [] in length-take-le n (drop o xs) (omega (arith, h.2, length-drop o xs))
+
+view_fits : (buffers : List (List ℕ)) (v : View) → IsView buffers v → length (view_bytes buffers v) ≤ view_limit
+view_fits buffers (inline n bs) h = omega (arith, length_is buffers (inline n bs) h, h.0)
+view_fits buffers (long n p b o) h = omega (arith, length_is buffers (long n p b o) h, h.4)
+
+-- each value fits into a buffer
+pub value_fits : (a : ViewArray) (i : ℕ) (v : List ℕ) → AreViews a.buffers a.views → slice_get (values_of a) i ≡ Some v → length v ≤ view_limit
+value_fits a i v h e =
+    packed_fits (values_of a) i v (all_map (IsView a.buffers) (λ x. length x ≤ view_limit) (view_bytes a.buffers) (view_fits a.buffers) a.views h) e
 
 -- a view with its buffer's number raised to that of the same buffer among all
 module _ (first : ℕ) (run buffers : List (List ℕ)) (is : IsRun first run buffers) (few : length buffers < 2 ^ 32) where
@@ -178,12 +197,12 @@ slot_by (Some b) xs i d f h = masked_at b.bits xs i d f h
 length-view_slots : (buffers : List (List ℕ)) (vs : List View) → length (view_slots buffers vs) ≡ length vs
 length-view_slots buffers vs = length-map (map (view_bytes buffers) vs) bytes ∙ length-map vs (view_bytes buffers)
 
-pub slots_join : (buffers : List (List ℕ)) (vs ws : List View) → view_slots buffers (vs ++ ws) ≡ view_slots buffers vs ++ view_slots buffers ws
-slots_join buffers vs ws = ap (map bytes) (map-append (view_bytes buffers) vs ws) ∙ map-append bytes (map (view_bytes buffers) vs) (map (view_bytes buffers) ws)
+pub values_join : (buffers : List (List ℕ)) (vs ws : List View) → values_in buffers (vs ++ ws) ≡ values_in buffers vs ++ values_in buffers ws
+values_join buffers vs ws = map-append (view_bytes buffers) vs ws
 
-pub texts_join : (text : Bool) (buffers : List (List ℕ)) (vs ws : List View) → AreTextsIf text (values_in buffers vs) → AreTextsIf text (values_in buffers ws) → AreTextsIf text (values_in buffers (vs ++ ws))
-texts_join true buffers vs ws h k = subst (AllByRecursion IsUtf8) (sym (map-append (view_bytes buffers) vs ws)) (all_join IsUtf8 (values_in buffers vs) (values_in buffers ws) h k)
-texts_join false buffers vs ws h k = tt
+pub texts_join : (text : Bool) (xs ys : List (List ℕ)) → AreTextsIf text xs → AreTextsIf text ys → AreTextsIf text (xs ++ ys)
+texts_join true xs ys h k = all_join IsUtf8 xs ys h k
+texts_join false xs ys h k = tt
 
 module _ (a : ViewArray) (fits : MaskHasLength a.mask (length a.views)) where
   slot_here : (i : ℕ) → i < length a.views → get_or (denote (view_layout a)) i null ≡ cond (valid_at a.mask i) (bytes (view_bytes a.buffers (get_or a.views i zero_view))) null
@@ -207,68 +226,92 @@ module _ (a : ViewArray) (fits : MaskHasLength a.mask (length a.views)) where
       by None f = refl
       by (Some b) f = some b.bits (view_slots a.buffers a.views) f
 
-  -- the view for a slot among the buffers of all
-  module _ (text : Bool) (first : ℕ) (buffers : List (List ℕ)) (is : IsRun first a.buffers buffers) (few : length buffers < 2 ^ 32)
-      (placed : AreViews a.buffers a.views) (texts : AreTextsIf text (values_in a.buffers a.views)) where
-    one_placed : (i : ℕ) → i < length a.views → IsView buffers (slot_view first a i)
-    one_placed i h = by (valid_at a.mask i)
-      where
-        by : (b : Bool) → IsView buffers (cond b (shifted first (get_or a.views i zero_view)) zero_view)
-        by true = shifted_placed first a.buffers buffers is few (get_or a.views i zero_view) (all_at (IsView a.buffers) a.views i zero_view h placed)
-        by false = nothing_placed buffers
+  one_stands : (i : ℕ) → i < length a.views → StandsFor IsEmptyValue (bytes (slot_value a i)) (get_or (denote (view_layout a)) i null)
+  one_stands i h = subst (StandsFor IsEmptyValue (bytes (slot_value a i))) (sym (slot_here i h)) (by (valid_at a.mask i))
+    where
+      v : View
+      v = get_or a.views i zero_view
 
-    one_stands : (i : ℕ) → i < length a.views
-        → StandsFor IsEmptyValue (bytes (view_bytes buffers (slot_view first a i))) (get_or (denote (view_layout a)) i null)
-    one_stands i h = subst (StandsFor IsEmptyValue (bytes (view_bytes buffers (slot_view first a i)))) (sym (slot_here i h)) (by (valid_at a.mask i))
-      where
-        v : View
-        v = get_or a.views i zero_view
+      by : (b : Bool) → StandsFor IsEmptyValue (bytes (cond b (view_bytes a.buffers v) [])) (cond b (bytes (view_bytes a.buffers v)) null)
+      by true = record { same = λ e. refl; blank = λ e. absurd (cc) }
+      by false = record { same = λ e. absurd (cc); blank = λ e. refl }
 
-        by : (b : Bool) → StandsFor IsEmptyValue (bytes (view_bytes buffers (cond b (shifted first v) zero_view))) (cond b (bytes (view_bytes a.buffers v)) null)
-        by true = record {
-          same = λ e. ap bytes (shifted_bytes first a.buffers buffers is few v (all_at (IsView a.buffers) a.views i zero_view h placed));
-          blank = λ e. absurd (cc);
-        }
-        by false = record { same = λ e. absurd (cc); blank = λ e. refl }
+  -- the values of n slots stand for them
+  pub values_stand : (o n : ℕ) → o + n ≤ length a.views → StandFor IsEmptyValue (map bytes (slot_values a o n)) (part o n (denote (view_layout a)))
+  values_stand o zero h = tt
+  values_stand o (suc n) h =
+      let here : o + n < length a.views = omega (arith, h) in
+      let xs = slot_values a o n in
+      let x = slot_value a (o + n) in
+      subst (λ ys. StandFor IsEmptyValue ys (part o (suc n) (denote (view_layout a)))) (sym (map-append bytes xs (x ∷ [])))
+      (subst (StandFor IsEmptyValue (map bytes xs ++ map bytes (x ∷ []))) (sym (part_more o n (denote (view_layout a)) null (omega (arith, here, slot_count))))
+      (stand_join IsEmptyValue (map bytes xs) (part o n (denote (view_layout a))) (map bytes (x ∷ [])) (get_or (denote (view_layout a)) (o + n) null ∷ [])
+      (values_stand o n (omega (arith, h))) (one_stands (o + n) here, tt)))
 
-    text_by : (t : Bool) (i : ℕ) → i < length a.views → AreTextsIf t (values_in a.buffers a.views) → AreTextsIf t (values_in buffers (slot_view first a i ∷ []))
-    text_by false i h k = tt
-    text_by true i h k = (by (valid_at a.mask i), tt)
-      where
-        v : View
-        v = get_or a.views i zero_view
+-- the value at a slot is UTF-8 where all are
+one_text : (text : Bool) (a : ViewArray) (i : ℕ) → i < length a.views → AreTextsIf text (values_in a.buffers a.views) → AreTextsIf text (slot_value a i ∷ [])
+one_text false a i h k = tt
+one_text true a i h k = (by (valid_at a.mask i), tt)
+  where
+    v : View
+    v = get_or a.views i zero_view
 
-        here : IsUtf8 (view_bytes a.buffers v)
-        here =
-            subst IsUtf8 (get_or-map (view_bytes a.buffers) a.views i zero_view [] h)
-            (all_at IsUtf8 (values_in a.buffers a.views) i [] (omega (arith, h, length-map a.views (view_bytes a.buffers))) k)
+    here : IsUtf8 (view_bytes a.buffers v)
+    here =
+        subst IsUtf8 (get_or-map (view_bytes a.buffers) a.views i zero_view [] h)
+        (all_at IsUtf8 (values_in a.buffers a.views) i [] (omega (arith, h, length-map a.views (view_bytes a.buffers))) k)
 
-        by : (b : Bool) → IsUtf8 (view_bytes buffers (cond b (shifted first v) zero_view))
-        by true = subst IsUtf8 (sym (shifted_bytes first a.buffers buffers is few v (all_at (IsView a.buffers) a.views i zero_view h placed))) here
-        by false = ([], (refl, refl))
+    by : (b : Bool) → IsUtf8 (cond b (view_bytes a.buffers v) [])
+    by true = here
+    by false = ([], (refl, refl))
 
-    -- ---- and for n slots
+pub no_texts : (text : Bool) → AreTextsIf text []
+no_texts true = tt
+no_texts false = tt
 
-    pub run_placed : (o n : ℕ) → o + n ≤ length a.views → AreViews buffers (slot_views first a o n)
-    run_placed o zero h = tt
-    run_placed o (suc n) h =
-        all_join (IsView buffers) (slot_views first a o n) (slot_view first a (o + n) ∷ []) (run_placed o n (omega (arith, h))) (one_placed (o + n) (omega (arith, h)), tt)
+pub values_texts : (text : Bool) (a : ViewArray) (o n : ℕ) → o + n ≤ length a.views → AreTextsIf text (values_in a.buffers a.views) → AreTextsIf text (slot_values a o n)
+values_texts text a o zero h k = no_texts text
+values_texts text a o (suc n) h k =
+    texts_join text (slot_values a o n) (slot_value a (o + n) ∷ []) (values_texts text a o n (omega (arith, h)) k) (one_text text a (o + n) (omega (arith, h)) k)
 
-    pub run_stands : (o n : ℕ) → o + n ≤ length a.views → StandFor IsEmptyValue (view_slots buffers (slot_views first a o n)) (part o n (denote (view_layout a)))
-    run_stands o zero h = tt
-    run_stands o (suc n) h =
-        let here : o + n < length a.views = omega (arith, h) in
-        let vs = slot_views first a o n in
-        let w = slot_view first a (o + n) in
-        subst (λ xs. StandFor IsEmptyValue xs (part o (suc n) (denote (view_layout a)))) (sym (slots_join buffers vs (w ∷ [])))
-        (subst (StandFor IsEmptyValue (view_slots buffers vs ++ view_slots buffers (w ∷ []))) (sym (part_more o n (denote (view_layout a)) null (omega (arith, here, slot_count))))
-        (stand_join IsEmptyValue (view_slots buffers vs) (part o n (denote (view_layout a))) (view_slots buffers (w ∷ [])) (get_or (denote (view_layout a)) (o + n) null ∷ [])
-        (run_stands o n (omega (arith, h))) (one_stands (o + n) here, tt)))
+-- ---- the views for slots among the buffers of all
 
-    pub run_texts : (o n : ℕ) → o + n ≤ length a.views → AreTextsIf text (values_in buffers (slot_views first a o n))
-    run_texts o zero h = no_texts text
-      where
-        no_texts : (t : Bool) → AreTextsIf t []
-        no_texts true = tt
-        no_texts false = tt
-    run_texts o (suc n) h = texts_join text buffers (slot_views first a o n) (slot_view first a (o + n) ∷ []) (run_texts o n (omega (arith, h))) (text_by text (o + n) (omega (arith, h)) texts)
+module _ (a : ViewArray) (first : ℕ) (buffers : List (List ℕ)) (is : IsRun first a.buffers buffers) (few : length buffers < 2 ^ 32) (placed : AreViews a.buffers a.views) where
+  one_placed : (i : ℕ) → i < length a.views → IsView buffers (slot_view first a i) × (view_bytes buffers (slot_view first a i) ≡ slot_value a i)
+  one_placed i h = by (valid_at a.mask i)
+    where
+      v : View
+      v = get_or a.views i zero_view
+
+      here : IsView a.buffers v
+      here = all_at (IsView a.buffers) a.views i zero_view h placed
+
+      by : (b : Bool) → IsView buffers (cond b (shifted first v) zero_view) × (view_bytes buffers (cond b (shifted first v) zero_view) ≡ cond b (view_bytes a.buffers v) [])
+      by true = (shifted_placed first a.buffers buffers is few v here, shifted_bytes first a.buffers buffers is few v here)
+      by false = (nothing_placed buffers, refl)
+
+  pub run_placed : (o n : ℕ) → o + n ≤ length a.views → AreViewsOf buffers (slot_views first a o n) (slot_values a o n)
+  run_placed o zero h = (tt, refl)
+  run_placed o (suc n) h =
+      let before = run_placed o n (omega (arith, h)) in
+      let here = one_placed (o + n) (omega (arith, h)) in
+      let vs = slot_views first a o n in
+      let w = slot_view first a (o + n) in (
+        all_join (IsView buffers) vs (w ∷ []) before.0 (here.0, tt),
+        values_join buffers vs (w ∷ []) ∙ ap₂ (λ xs x. xs ++ x ∷ []) before.1 here.1,
+      )
+
+-- a view says how many bytes its value has
+pub slot_length : (a : ViewArray) (first i : ℕ) → AreViews a.buffers a.views → i < length a.views → view_length (slot_view first a i) ≡ length (slot_value a i)
+slot_length a first i placed h = by (valid_at a.mask i)
+  where
+    v : View
+    v = get_or a.views i zero_view
+
+    same : (w : View) → view_length (shifted first w) ≡ view_length w
+    same (inline n bs) = refl
+    same (long n p b o) = refl
+
+    by : (b : Bool) → view_length (cond b (shifted first v) zero_view) ≡ length (cond b (view_bytes a.buffers v) [])
+    by true = same v ∙ sym (length_is a.buffers v (all_at (IsView a.buffers) a.views i zero_view h placed))
+    by false = refl

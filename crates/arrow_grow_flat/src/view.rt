@@ -1,10 +1,12 @@
 //! The growable of binary values and of strings by views.
-ghost use Rattle.std.specs.Prelude.{◌≡◌, ◌+◌, ◌^◌, ◌<◌, ◌≤◌, ◌++◌, length as count, map, take, IfOk, IsErrOf, MatchResult, OnOk};
+ghost use Rattle.std.specs.Prelude.{◌≡◌, ◌↔◌, ◌+◌, ◌^◌, ◌<◌, ◌≤◌, ◌++◌, List, drop, length as count, map, take, IfOk, IsErrOf, IsTrue, MatchResult, OnErr, OnOk};
 ghost use Rattle.arrow_types.specs.declared.error.GrowError.TheVariants as grow;
 ghost use Rattle.arrow_flat.specs.Natives.{octets};
-ghost use Rattle.arrow_flat.specs.Views.{view_length};
+ghost use Rattle.arrow_flat.specs.Packs.{view_limit};
+ghost use Rattle.arrow_flat.specs.Views.{IsView, view_bytes, view_length};
+ghost use Rattle.arrow_views.specs.ViewArrays.{ViewArray};
 ghost use Rattle.arrow_views.specs.ViewParts.{buffer_of};
-ghost use Rattle.arrow_grow_flat.specs.SharedViews.{buffer_starts, joined_buffers, shifted, slot_view, slot_views, total_length};
+ghost use Rattle.arrow_grow_flat.specs.SharedViews.{AreLongValues, AreViewsOf, IsShared, KeepViews, buffer_starts, byte_count, joined_buffers, long_buffers, shifted, slot_value, slot_values, slot_view, slot_views};
 
 use crate::sources::share_all;
 use crate::{FlatGrowable, GrowableValues};
@@ -12,7 +14,7 @@ use arrow_buffers::{Bitmap, Buffer};
 use arrow_flat::ViewType;
 use arrow_meaning::{ArrayRef, FlatArray, FlatNode, NodeView};
 use arrow_types::{ArrowDataType, GrowError, Mem};
-use arrow_views::{BinaryViewArrayGeneric, View};
+use arrow_views::{BinaryViewArrayGeneric, View, ViewPacker};
 use std::alloc::{AllocError, Global};
 use std::marker::Model;
 
@@ -20,23 +22,43 @@ use std::marker::Model;
 const MOST_BYTES: usize = 1 << 62;
 
 /// A growable of binary values or of strings by views. Its arrays' buffers are shared, one array's
-/// after another's, so that no value of more than twelve bytes is copied; the view of a null is that
-/// of no bytes.
-///
-/// It can't be made, and is refused as out of memory, where its arrays have 2^32 buffers or more
-/// together, which a view can't number.
+/// after another's, so that no value of more than twelve bytes is copied; where they are 2^32 or
+/// more, which a view can't number, such values are packed into buffers of the growable. The view
+/// of a null is that of no bytes.
 pub type GrowableBinaryViewArray<T> = FlatGrowable<GrowingViews<T>>;
 
-/// Views that grow out of those of arrays, and the buffers of these arrays.
+/// Views that grow out of those of arrays.
 pub struct GrowingViews<T: NodeView> {
     dtype: ArrowDataType,
     arrays: Vec<BinaryViewArrayGeneric<T>>,
-    /// Where the buffers of each array begin among all.
-    starts: Vec<usize>,
-    buffers: Vec<Buffer<u8>>,
+    values: LongValues,
     views: Vec<View>,
     /// How many bytes the values have together.
     total: usize,
+}
+
+/// Where values of more than twelve bytes stand.
+enum LongValues {
+    /// In the buffers of all arrays, one array's after another's, and where those of each begin.
+    Shared {
+        starts: Vec<usize>,
+        buffers: Vec<Buffer<u8>>,
+    },
+    /// In buffers of their own.
+    Packed(ViewPacker),
+}
+
+/// By hand: where a value may end there is one call to prove then, not the drop of each field.
+impl Drop for LongValues {
+    fn drop(self) {
+        match self {
+            LongValues::Shared {
+                starts: _,
+                buffers: _,
+            } => {}
+            LongValues::Packed(_) => {}
+        }
+    }
 }
 
 /// By hand: where a value may end there is one call to prove then, not the drop of each field.
@@ -45,8 +67,7 @@ impl<T: NodeView> Drop for GrowingViews<T> {
         let GrowingViews {
             dtype: _,
             arrays: _,
-            starts: _,
-            buffers: _,
+            values: _,
             views: _,
             total: _,
         } = self;
@@ -54,10 +75,8 @@ impl<T: NodeView> Drop for GrowingViews<T> {
 }
 
 impl<T: NodeView> Model for GrowingViews<T> {
-    ghost use Rattle.std.specs.Prelude.{map};
     ghost use Rattle.arrow_types.specs.Seen.{seen as type_of};
-    ghost use Rattle.arrow_flat.specs.Natives.{octets};
-    ghost use Rattle.arrow_grow_flat.specs.SharedViews.{AreGrowingViews, view_values};
+    ghost use Rattle.arrow_grow_flat.specs.SharedViews.{AreGrowingViews, AreLongValues, long_buffers, view_values};
     ghost use Rattle.arrow_grow_flat.specs.Values.{Values, values_code};
 
     ghost Value = { Values };
@@ -65,10 +84,11 @@ impl<T: NodeView> Model for GrowingViews<T> {
     ghost coded = { values_code };
 
     ghost view = { λ v.
-        view_values (type_of v.dtype) v.arrays.items (map octets v.buffers.items) v.views.items };
+        view_values (type_of v.dtype) v.arrays.items (long_buffers v.values) v.views.items };
 
-    ghost invariant = { λ v. AreGrowingViews T.IS_TEXT (type_of v.dtype) v.arrays.items
-        v.starts.items (map octets v.buffers.items) v.views.items v.total };
+    ghost invariant = { λ v. AreLongValues v.arrays.items v.values
+        × AreGrowingViews T.IS_TEXT (type_of v.dtype) v.arrays.items (long_buffers v.values)
+        v.views.items v.total };
 }
 
 impl<T: NodeView> GrowableValues for GrowingViews<T> {
@@ -91,14 +111,13 @@ impl<T: NodeView> GrowableValues for GrowingViews<T> {
         let sources = share_all(alloc, arrays)?;
         FlatNode::invariant(&arrays[0]);
         let dtype = arrays[0].dtype().try_clone(alloc)?;
-        let (starts, buffers) = join_buffers(alloc, arrays)?;
+        let values = LongValues::new(alloc, arrays)?;
         let mut views = Vec::new(alloc);
         views.reserve(capacity)?;
         Ok(GrowingViews {
             dtype,
             arrays: sources,
-            starts,
-            buffers,
+            values,
             views,
             total: 0,
         })
@@ -125,25 +144,15 @@ impl<T: NodeView> GrowableValues for GrowingViews<T> {
     }
 
     fn extend(&mut self, index: usize, start: usize, len: usize) -> Result<(), GrowError> {
-        let count = self.views.len();
         let array = &self.arrays[index];
         array.invariant();
-        match push_views(
-            &mut self.views,
-            array,
-            self.starts[index],
-            start,
-            len,
-            self.total,
-        ) {
-            Ok(total) => {
-                self.total = total;
-                Ok(())
+        let views = &mut self.views;
+        let total = &mut self.total;
+        match &mut self.values {
+            LongValues::Shared { starts, buffers: _ } => {
+                extend_shared(views, total, array, starts[index], start, len)
             }
-            Err(error) => {
-                self.views.truncate(count);
-                Err(error)
-            }
+            LongValues::Packed(packer) => extend_packed(views, total, packer, array, start, len),
         }
     }
 
@@ -163,8 +172,7 @@ impl<T: NodeView> GrowableValues for GrowingViews<T> {
         let views = std::mem::replace(&mut self.views, Vec::new(alloc));
         self.total = 0;
         let dtype = self.dtype.try_clone(alloc)?;
-        let mut buffers = Vec::new(alloc);
-        push_buffers(alloc, &mut buffers, &self.buffers)?;
+        let buffers = self.values.finish(alloc)?;
         let views = Buffer::from_vec(alloc, views)?;
         Ok(BinaryViewArrayGeneric::new(dtype, views, buffers, validity))
     }
@@ -174,23 +182,58 @@ impl<T: NodeView> GrowableValues for GrowingViews<T> {
     }
 }
 
-/// The buffers of all arrays, one array's after another's, and where those of each begin. Refused
-/// where they are 2^32 or more, too.
-fn join_buffers<T: ViewType>(
-    alloc: Global,
-    arrays: &[BinaryViewArrayGeneric<T>],
-) -> Mem<(Vec<usize>, Vec<Buffer<u8>>)>
-    ensures starts { IfOk result (λ p. p.0.items ≡ buffer_starts 0 arrays.now) }
-    ensures joined { IfOk result (λ p. map octets p.1.items ≡ joined_buffers arrays.now) }
-    ensures few { IfOk result (λ p. count p.1.items < 2 ^ 32) }
-{
-    let mut starts = Vec::with_capacity(alloc, arrays.len())?;
-    let mut buffers = Vec::new(alloc);
-    push_all_buffers(alloc, &mut starts, &mut buffers, arrays)?;
-    if buffers.len() > u32::MAX as usize {
-        return Err(AllocError);
+impl LongValues {
+    /// The buffers of the arrays, where a view can number them; else none yet.
+    fn new<T: ViewType>(alloc: Global, arrays: &[BinaryViewArrayGeneric<T>]) -> Mem<LongValues>
+        ensures held { IfOk result (λ v. AreLongValues arrays.now v) }
+        ensures shared { IfOk result (λ v.
+            IsShared v ↔ (count (joined_buffers arrays.now) < 2 ^ 32)) }
+    {
+        if has_few_buffers(arrays) {
+            let mut starts = Vec::with_capacity(alloc, arrays.len())?;
+            let mut buffers = Vec::new(alloc);
+            push_all_buffers(alloc, &mut starts, &mut buffers, arrays)?;
+            Ok(LongValues::Shared { starts, buffers })
+        } else {
+            let packer = ViewPacker::new(alloc, u32::MAX)?;
+            Ok(LongValues::Packed(packer))
+        }
     }
-    Ok((starts, buffers))
+
+    /// The buffers that the values stand in, for an array; no values are left.
+    fn finish(&mut self, alloc: Global) -> Mem<Vec<Buffer<u8>>>
+        ensures made { IfOk result (λ bs. map octets bs.items ≡ long_buffers self.old) }
+        ensures held { (arrays : List ViewArray) →
+            AreLongValues arrays self.old → AreLongValues arrays self.new }
+    {
+        match self {
+            LongValues::Shared { starts: _, buffers } => {
+                let mut shared = Vec::new(alloc);
+                push_buffers(alloc, &mut shared, buffers)?;
+                Ok(shared)
+            }
+            LongValues::Packed(packer) => {
+                let empty = ViewPacker::new(alloc, u32::MAX)?;
+                let packed = std::mem::replace(packer, empty);
+                packed.finish()
+            }
+        }
+    }
+}
+
+/// Whether a view can number the buffers of all arrays: they are fewer than 2^32.
+fn has_few_buffers<T: ViewType>(arrays: &[BinaryViewArrayGeneric<T>]) -> bool
+    ensures { IsTrue result ↔ (count (joined_buffers arrays.now) < 2 ^ 32) }
+{
+    let mut total = 0;
+    for array in arrays {
+        let more = array.data_buffers().len();
+        if more > u32::MAX as usize - total {
+            return false;
+        }
+        total += more;
+    }
+    true
 }
 
 /// Appends the buffers of all arrays to none, and where those of each begin.
@@ -222,10 +265,47 @@ fn push_buffers(alloc: Global, buffers: &mut Vec<Buffer<u8>>, source: &[Buffer<u
     Ok(())
 }
 
+/// Appends the views for n slots of an array whose buffers begin at `first`, where all values, with
+/// `total` bytes before, have at most 2^62 bytes then; else Overflow. A refused call changes
+/// nothing.
+fn extend_shared<T: ViewType>(
+    views: &mut Vec<View>,
+    total: &mut usize,
+    array: &BinaryViewArrayGeneric<T>,
+    first: usize,
+    start: usize,
+    len: usize,
+) -> Result<(), GrowError>
+    requires reached { start + len ≤ count array.now.views }
+    requires numbered { first + count array.now.buffers < 2 ^ 32 }
+    requires few { total.old ≤ 2 ^ 62 }
+    ensures more { OnOk result
+        (views.new.items ≡ views.old.items ++ slot_views first array.now start len) }
+    ensures counted { OnOk result
+        (total.new ≡ total.old + byte_count (slot_values array.now start len)) }
+    ensures within { total.new ≤ 2 ^ 62 }
+    ensures same { OnErr result
+        ((views.new.items ≡ views.old.items) × (total.new ≡ total.old)) }
+    ensures overflow { IsErrOf result grow.Overflow →
+        2 ^ 62 < total.old + byte_count (slot_values array.now start len) }
+{
+    let count = views.len();
+    match push_shared(views, array, first, start, len, *total) {
+        Ok(all) => {
+            *total = all;
+            Ok(())
+        }
+        Err(error) => {
+            views.truncate(count);
+            Err(error)
+        }
+    }
+}
+
 /// Appends the views for n slots of an array whose buffers begin at `first`, and returns how many
 /// bytes all values have then, those before having `before`. Overflow where these are more than
 /// 2^62. A refused call may have appended some.
-fn push_views<T: ViewType>(
+fn push_shared<T: ViewType>(
     views: &mut Vec<View>,
     array: &BinaryViewArrayGeneric<T>,
     first: usize,
@@ -236,35 +316,138 @@ fn push_views<T: ViewType>(
     requires reached { start + len ≤ count array.now.views }
     requires numbered { first + count array.now.buffers < 2 ^ 32 }
     requires few { before ≤ 2 ^ 62 }
-    ensures ok { let more = slot_views first array.now start len in IfOk result (λ n.
-        (n ≡ before + total_length more) × (n ≤ 2 ^ 62)) }
+    ensures ok { IfOk result (λ n.
+        (n ≡ before + byte_count (slot_values array.now start len)) × (n ≤ 2 ^ 62)) }
     ensures more { OnOk result
         (views.new.items ≡ views.old.items ++ slot_views first array.now start len) }
     ensures kept { take (count views.old.items) views.new.items ≡ views.old.items }
     ensures overflow { IsErrOf result grow.Overflow →
-        2 ^ 62 < before + total_length (slot_views first array.now start len) }
+        2 ^ 62 < before + byte_count (slot_values array.now start len) }
 {
     array.len();
+    array.invariant();
     let mut total = before;
     for i in 0..len {
         let view = slot_view(array, first, start + i);
-        total = with_length(total, view.length())?;
+        total = with_length(total, view.length() as usize)?;
         views.push(view)?;
     }
     Ok(total)
 }
 
+/// Packs the values of n slots of an array and appends their views, where all values, with `total`
+/// bytes before, have at most 2^62 bytes then; else Overflow. A refused call changes no view.
+fn extend_packed<T: ViewType>(
+    views: &mut Vec<View>,
+    total: &mut usize,
+    packer: &mut ViewPacker,
+    array: &BinaryViewArrayGeneric<T>,
+    start: usize,
+    len: usize,
+) -> Result<(), GrowError>
+    requires limit { packer.old.limit ≡ view_limit }
+    requires reached { start + len ≤ count array.now.views }
+    requires few { total.old ≤ 2 ^ 62 }
+    ensures limit { packer.new.limit ≡ view_limit }
+    ensures keep { KeepViews packer.old.buffers packer.new.buffers }
+    ensures front { OnOk result
+        (take (count views.old.items) views.new.items ≡ views.old.items) }
+    ensures more { OnOk result (AreViewsOf packer.new.buffers
+        (drop (count views.old.items) views.new.items) (slot_values array.now start len)) }
+    ensures counted { OnOk result
+        (total.new ≡ total.old + byte_count (slot_values array.now start len)) }
+    ensures within { total.new ≤ 2 ^ 62 }
+    ensures same { OnErr result
+        ((views.new.items ≡ views.old.items) × (total.new ≡ total.old)) }
+    ensures overflow { IsErrOf result grow.Overflow →
+        2 ^ 62 < total.old + byte_count (slot_values array.now start len) }
+{
+    let count = views.len();
+    match push_packed(views, packer, array, start, len, *total) {
+        Ok(all) => {
+            *total = all;
+            Ok(())
+        }
+        Err(error) => {
+            views.truncate(count);
+            Err(error)
+        }
+    }
+}
+
+/// Packs the values of n slots of an array and appends their views, and returns how many bytes all
+/// values have then, those before having `before`. Overflow where these are more than 2^62. A
+/// refused call may have packed and appended some.
+fn push_packed<T: ViewType>(
+    views: &mut Vec<View>,
+    packer: &mut ViewPacker,
+    array: &BinaryViewArrayGeneric<T>,
+    start: usize,
+    len: usize,
+    before: usize,
+) -> Result<usize, GrowError>
+    requires limit { packer.old.limit ≡ view_limit }
+    requires reached { start + len ≤ count array.now.views }
+    requires few { before ≤ 2 ^ 62 }
+    ensures limit { packer.new.limit ≡ view_limit }
+    ensures keep { KeepViews packer.old.buffers packer.new.buffers }
+    ensures kept { take (count views.old.items) views.new.items ≡ views.old.items }
+    ensures more { OnOk result (AreViewsOf packer.new.buffers
+        (drop (count views.old.items) views.new.items) (slot_values array.now start len)) }
+    ensures ok { IfOk result (λ n.
+        (n ≡ before + byte_count (slot_values array.now start len)) × (n ≤ 2 ^ 62)) }
+    ensures overflow { IsErrOf result grow.Overflow →
+        2 ^ 62 < before + byte_count (slot_values array.now start len) }
+{
+    array.len();
+    let mut total = before;
+    for i in 0..len {
+        let value = slot_bytes(array, start + i);
+        total = with_length(total, value.len())?;
+        views.push(pack_value(packer, value)?)?;
+    }
+    Ok(total)
+}
+
+/// The view of one value more. Refused where there are 2^32 - 1 buffers, too.
+fn pack_value(packer: &mut ViewPacker, value: &[u8]) -> Mem<View>
+    requires limit { packer.old.limit ≡ view_limit }
+    requires fits { count value.now ≤ view_limit }
+    ensures limit { packer.new.limit ≡ view_limit }
+    ensures keep { KeepViews packer.old.buffers packer.new.buffers }
+    ensures view { IfOk result (λ v. IsView packer.new.buffers v
+        × (view_bytes packer.new.buffers v ≡ octets value.now)) }
+{
+    if packer.buffer_count() >= u32::MAX as usize {
+        return Err(AllocError);
+    }
+    packer.push_value(value)
+}
+
 /// How many bytes there are with a value of `length` more. Overflow where these are more than 2^62.
-fn with_length(total: usize, length: u32) -> Result<usize, GrowError>
+fn with_length(total: usize, length: usize) -> Result<usize, GrowError>
     requires { total ≤ 2 ^ 62 }
     ensures { MatchResult result (λ n. (n ≡ total + length) × (n ≤ 2 ^ 62))
         (λ e. (e ≡ grow.Overflow) × (2 ^ 62 < total + length)) }
 {
-    let length = length as usize;
     if length > MOST_BYTES - total {
         return Err(GrowError::Overflow);
     }
     Ok(total + length)
+}
+
+/// The bytes of the value at a slot, none for a null.
+fn slot_bytes<T: ViewType>(array: &BinaryViewArrayGeneric<T>, i: usize) -> &[u8]
+    requires { i < count array.now.views }
+    ensures value { octets result.now ≡ slot_value array.now i }
+    ensures fits { count result.now ≤ view_limit }
+{
+    array.invariant();
+    if array.is_valid(i) {
+        array.value_bytes(i)
+    } else {
+        &[]
+    }
 }
 
 /// The view for a slot of an array whose buffers begin at `first`: that of no bytes for a null.

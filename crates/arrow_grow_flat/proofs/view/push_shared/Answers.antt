@@ -1,13 +1,24 @@
 use Rattle.std.proofs.Common.{◌≡◌, suc, ◌+◌, ◌++◌, ◌∷◌, [], ap, sym, ◌∙◌, arith, append_assoc}
 use Rattle.arrow_flat.specs.Views.{view_length}
-use Rattle.arrow_grow_flat.specs.SharedViews.{slot_view, slot_views, total_length}
-use Rattle.arrow_grow_flat.proofs.ViewValues.{total_push, total_past}
-use Rattle.arrow_grow_flat.proofs.view.push_views.Goals as goal
+use Rattle.arrow_grow_flat.specs.SharedViews.{byte_count, slot_value, slot_values, slot_views}
+use Rattle.arrow_grow_flat.proofs.SharedViews.{slot_length}
+use Rattle.arrow_grow_flat.proofs.ViewValues.{count_past, count_push}
+use Rattle.arrow_grow_flat.proofs.view.push_shared.Goals as goal
 
 pub returns-in_err-total-clause-overflow : goal.returns-in_err-total-clause-overflow
 returns-in_err-total-clause-overflow g c refused =
     let a = c.args.array.now in
-    omega (arith, c.in_err-total.ensures.1, c.loop-i.invariant.counted, c.length.ensures.value, ap view_length c.slot_view-view.ensures, total_past c.args.first a c.args.start c.loop-i.i c.args.len c.loop-i-test.true)
+    let o = c.args.start in
+    let i = c.loop-i.i in
+    omega (
+      arith,
+      c.in_err-total.ensures.1,
+      c.loop-i.invariant.counted,
+      c.length.ensures.value,
+      ap view_length c.slot_view-view.ensures,
+      slot_length a c.args.first (o + i) c.invariant.ensures.placed (omega (arith, c.requires.reached, c.loop-i-test.true)),
+      count_past a o i c.args.len c.loop-i-test.true,
+    )
 
 pub loop-i-preserved : goal.loop-i-preserved
 loop-i-preserved g c =
@@ -17,7 +28,6 @@ loop-i-preserved g c =
     let first = c.args.first in
     let o = c.args.start in
     let vs = slot_views first a o i in
-    let view = slot_view first a (o + i) in
     let next : i + 1 ≡ suc i = omega arith in
     record {
       more =
@@ -30,8 +40,9 @@ loop-i-preserved g c =
             c.loop-i.invariant.counted,
             c.length.ensures.value,
             ap view_length c.slot_view-view.ensures,
-            total_push vs view,
-            ap (λ k. total_length (slot_views first a o k)) next,
+            slot_length a first (o + i) c.invariant.ensures.placed (omega (arith, c.requires.reached, c.loop-i-test.true)),
+            count_push (slot_values a o i) (slot_value a (o + i)),
+            ap (λ k. byte_count (slot_values a o k)) next,
           );
       within = c.in_ok-total.ensures.1;
     }
