@@ -116,9 +116,10 @@ pub mod array {
     /// Arrays that grow by slots of others.
     pub mod growable {
         pub use arrow_grow_flat::{
-            FlatGrowable, Growable, GrowableBinary, GrowableBoolean, GrowableFixedSizeBinary,
-            GrowableNull, GrowablePrimitive, GrowableUtf8, GrowableValues, GrowingBinaries,
-            GrowingBooleans, GrowingFixedSizeBinaries, GrowingPrimitives,
+            FlatGrowable, Growable, GrowableBinary, GrowableBinaryViewArray, GrowableBoolean,
+            GrowableFixedSizeBinary, GrowableNull, GrowablePrimitive, GrowableUtf8, GrowableValues,
+            GrowingBinaries, GrowingBooleans, GrowingFixedSizeBinaries, GrowingPrimitives,
+            GrowingViews,
         };
     }
 }

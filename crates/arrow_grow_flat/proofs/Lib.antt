@@ -9,7 +9,10 @@ pub mod JoinedSpans
 pub mod Making
 pub mod NullRuns
 pub mod Numbers
+pub mod PackedValues
 pub mod Rooms
+pub mod SharedViews
 pub mod SourceSlots
 pub mod Stands
 pub mod Steps
+pub mod ViewValues

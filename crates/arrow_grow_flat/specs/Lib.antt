@@ -2,6 +2,7 @@ pub mod Grown
 pub mod Kinds
 pub mod Masks
 pub mod Nulls
+pub mod SharedViews
 pub mod Spans
 pub mod Tidy
 pub mod Validities

@@ -14,6 +14,7 @@ mod primitive;
 mod sources;
 mod spans;
 mod values;
+mod view;
 
 pub use binary::{GrowableBinary, GrowableUtf8, GrowingBinaries};
 pub use boolean::{GrowableBoolean, GrowingBooleans};
@@ -24,3 +25,4 @@ pub use growable::Growable;
 pub use null::GrowableNull;
 pub use primitive::{GrowablePrimitive, GrowingPrimitives};
 pub use values::GrowableValues;
+pub use view::{GrowableBinaryViewArray, GrowingViews};

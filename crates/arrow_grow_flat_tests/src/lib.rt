@@ -9,3 +9,4 @@ mod concatenate;
 mod flat;
 #[cfg(test)]
 mod null;
+mod view;
