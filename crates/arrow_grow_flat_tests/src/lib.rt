@@ -9,4 +9,5 @@ mod concatenate;
 mod flat;
 #[cfg(test)]
 mod null;
+#[cfg(test)]
 mod view;
