@@ -76,7 +76,7 @@ impl<V: GrowableValues> FlatGrowable<V> {
     }
 
     /// For proofs alone: what the growable keeps.
-    fn sound(&self)
+    pub fn sound(&self)
         ensures sound { IsSound self.now }
         ensures form { IsValuesForm (form_of self.now.dtype) }
     {

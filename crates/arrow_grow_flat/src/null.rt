@@ -63,7 +63,7 @@ impl GrowableNull {
     }
 
     /// For proofs alone: what the growable keeps.
-    fn sound(&self)
+    pub fn sound(&self)
         ensures sound { IsSound self.now }
         ensures stored { physical_of self.now.dtype ≡ Some physical.Null }
         ensures nulls { self.now.takes_nulls ≡ true }
