@@ -1,0 +1,4 @@
+pub mod Flats
+pub mod Nulls
+pub mod Sized
+pub mod ViewOrder
