@@ -3,8 +3,12 @@
 
 mod binary;
 mod boolean;
+mod field;
+mod fill;
 mod fixed_size_binary;
 mod mask;
 mod primitive;
+mod struct_;
+mod union;
 mod view;
 mod zeros;
