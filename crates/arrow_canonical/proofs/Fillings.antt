@@ -155,10 +155,10 @@ all_at m n i (l ∷ ls) h w v =
     (subst (IsFilledAt l) e (h zero l (omega arith) refl i w v zero (omega arith)), all_at m n i ls (λ k c u p. h (suc k) c (omega (arith, u)) p) w v)
 
 all_from : (m : Option Bits) (n : ℕ) (ls : List Layout) → ((i : ℕ) → i < n → valid_at m i ≡ false → AllAt i ls) → AllFilled m n ls
-all_from m n [] h k l u e = absurd (omega (arith, u))
+all_from m n [] h k l u e i w v j x = absurd (omega (arith, u))
 all_from m n (c ∷ ls) h zero l u e i w v j x =
     let q : i ≡ i * 1 + j = omega (arith, x) in subst (λ a. IsFilledAt l a) q (subst (λ d. IsFilledAt d i) (sym e) (h i w v).0)
-all_from m n (c ∷ ls) h (suc k) l u e = all_from m n ls (λ i w v. (h i w v).1) k l (omega (arith, u)) e
+all_from m n (c ∷ ls) h (suc k) l u e i w v j x = all_from m n ls (λ a b d. (h a b d).1) k l (omega (arith, u)) e i w v j x
 
 pub structs_filled : (m : Option Bits) (n : ℕ) (fs : FieldList) (ls : List Layout) → MaskHasLength m n → HaveTypes fs (layouts ls) → AreWellFormed (λ k. k ≡ n) (layouts ls)
     → AllFilled m n ls ↔ AllUnset (λ r. r ≡ fills fs) (mask_bits m n) (rows n (layouts ls))

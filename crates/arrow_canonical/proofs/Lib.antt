@@ -4,5 +4,6 @@ pub mod Flats
 pub mod Ids
 pub mod Nulls
 pub mod Occurrences
+pub mod Parts
 pub mod Sized
 pub mod ViewOrder

@@ -17,7 +17,7 @@ use arrow_meaning::SizedOffset;
 
 /// Whether the offsets of binary values or of strings begin at 0, end where the bytes do, and don't
 /// rise over nulls.
-pub(crate) fn has_form<K: ViewType, O: SizedOffset>(array: &OffsetArray<K, O>) -> bool
+pub(crate) fn binary_form<K: ViewType, O: SizedOffset>(array: &OffsetArray<K, O>) -> bool
     ensures { IsTrue result ↔ HasOwnForm (binary_layout O.number array.now) }
 {
     array.invariant();

@@ -7,7 +7,7 @@ use crate::zeros::{ZeroValues, nulls_are_zero};
 use arrow_flat::BooleanArray;
 
 /// Whether the values have no leading bits, and are false under nulls.
-pub(crate) fn has_form(array: &BooleanArray) -> bool
+pub(crate) fn boolean_form(array: &BooleanArray) -> bool
     ensures { IsTrue result ↔ HasOwnForm (boolean_layout array.now) }
 {
     array.values().lead() == 0 && nulls_are_zero(array)

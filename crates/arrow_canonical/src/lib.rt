@@ -3,6 +3,7 @@
 
 mod binary;
 mod boolean;
+mod canonical;
 mod field;
 mod fill;
 mod fixed_size_binary;
@@ -12,3 +13,5 @@ mod struct_;
 mod union;
 mod view;
 mod zeros;
+
+pub use canonical::test_canonical;

@@ -16,7 +16,7 @@ pub(crate) trait ZeroNative: NodeNative {
 }
 
 /// Whether the values are zeros under nulls.
-pub(crate) fn has_form(array: &PrimitiveNode) -> bool
+pub(crate) fn primitive_form(array: &PrimitiveNode) -> bool
     ensures { IsTrue result ↔ HasOwnForm (primitive_node_layout array.now) }
 {
     match array {

@@ -6,6 +6,7 @@ ghost use Rattle.arrow_layout.specs.Canonical.{FillElsewhere};
 ghost use Rattle.arrow_layout.specs.Denote.{denote};
 ghost use Rattle.arrow_layout.specs.Layouts.{type_of};
 ghost use Rattle.arrow_layout.specs.SlotsOf.{fill};
+ghost use Rattle.arrow_types.specs.Carried.{IsBelow};
 ghost use Rattle.arrow_types.specs.Select.{nat_of};
 ghost use Rattle.arrow_canonical.specs.Counted.{AllCounted, AllElsewhere, AreCounts};
 
@@ -49,6 +50,7 @@ pub(crate) fn all_counted(
 ) -> Mem<bool>
     requires fields { AllByRecursion (λ j. j < count children.now) fields.now }
     requires offsets { count offsets.now ≡ count fields.now }
+    requires in_range { AllByRecursion (IsBelow (2 ^ 31)) offsets.now }
     ensures { IfOk result (λ b. IsTrue b ↔ ((map nat_of offsets.now ≡ counts_after [] fields.now)
         × AllCounted fields.now children.now)) }
 {
@@ -64,12 +66,13 @@ fn follow_counts(counts: &mut Vec<usize>, fields: &[usize], offsets: &[i32]) -> 
     requires zeros { counts.old.items ≡ replicate (count counts.old.items) 0 }
     requires fields { AllByRecursion (λ j. j < count counts.old.items) fields.now }
     requires offsets { count offsets.now ≡ count fields.now }
+    requires in_range { AllByRecursion (IsBelow (2 ^ 31)) offsets.now }
     ensures told { IsTrue result ↔ (map nat_of offsets.now ≡ counts_after [] fields.now) }
     ensures counted { IsTrue result → AreCounts counts.new.items fields.now }
     ensures kept { count counts.new.items ≡ count counts.old.items }
 {
     for i in 0..fields.len() {
-        if !is_next(counts, fields[i], offsets[i]) {
+        if !is_next(counts, fields[i], offset_at(offsets, i)) {
             return false;
         }
     }
@@ -77,14 +80,14 @@ fn follow_counts(counts: &mut Vec<usize>, fields: &[usize], offsets: &[i32]) -> 
 }
 
 /// Whether the offset is how many slots so far select the field; if so counts one more.
-fn is_next(counts: &mut Vec<usize>, field: usize, offset: i32) -> bool
-    requires { field < count counts.old.items }
-    ensures told { IsTrue result ↔ (nat_of offset ≡ get_or counts.old.items field 0) }
+fn is_next(counts: &mut Vec<usize>, field: usize, offset: usize) -> bool
+    requires field { field < count counts.old.items }
+    requires offset { offset < 2 ^ 31 }
+    ensures told { IsTrue result ↔ (offset ≡ get_or counts.old.items field 0) }
     ensures counted { IsTrue result → (before : List ℕ) → AreCounts counts.old.items before
         → AreCounts counts.new.items (before ++ field ∷ []) }
     ensures kept { count counts.new.items ≡ count counts.old.items }
 {
-    let offset = position(offset);
     if offset != counts[field] {
         return false;
     }
@@ -92,15 +95,14 @@ fn is_next(counts: &mut Vec<usize>, field: usize, offset: i32) -> bool
     true
 }
 
-/// A number as a position, 0 where it is negative.
-fn position(number: i32) -> usize
-    ensures same { result ≡ nat_of number }
+/// The offset of a slot.
+fn offset_at(offsets: &[i32], i: usize) -> usize
+    requires within { i < count offsets.now }
+    requires in_range { AllByRecursion (IsBelow (2 ^ 31)) offsets.now }
+    ensures same { result ≡ get_or (map nat_of offsets.now) i 0 }
     ensures small { result < 2 ^ 31 }
 {
-    match usize::try_from(number) {
-        Ok(position) => position,
-        Err(_) => 0,
-    }
+    offsets[i] as usize
 }
 
 /// Whether each child has the length that is counted for it.

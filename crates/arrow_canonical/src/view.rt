@@ -18,7 +18,7 @@ const MOST_INLINE: usize = 12;
 const MOST_BYTES: usize = 4_294_967_295;
 
 /// Whether the long values are packed in slot order, and the views are zeros under nulls.
-pub(crate) fn has_form<T: ViewType>(array: &BinaryViewArrayGeneric<T>) -> bool
+pub(crate) fn view_form<T: ViewType>(array: &BinaryViewArrayGeneric<T>) -> bool
     ensures { IsTrue result ↔ HasOwnForm (view_layout array.now) }
 {
     array.invariant();

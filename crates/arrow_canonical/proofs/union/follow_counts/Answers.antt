@@ -15,7 +15,7 @@ loop-i-preserved c =
     let f = get_or fs i 0 in
     let low : f < length c.loop-i.counts.items = omega (arith, field_low (length c.args.counts.now.items) fs i c.loop-i-test.true c.requires.fields, c.loop-i.invariant.2) in
     let within : i < length os = omega (arith, c.requires.offsets, c.loop-i-test.true) in (
-      nat_more os i within ∙ ap₂ (λ xs n. xs ++ n ∷ []) c.loop-i.invariant.0 (c.is_next.ensures.told.0 c.if-not-is_next.false ∙ c.loop-i.invariant.1 f low) ∙ counts_more fs i c.loop-i-test.true,
+      nat_more os i within ∙ ap₂ (λ xs n. xs ++ n ∷ []) c.loop-i.invariant.0 (sym (nat_get os i) ∙ sym c.offset_at.ensures.same ∙ c.is_next.ensures.told.0 c.if-not-is_next.false ∙ c.loop-i.invariant.1 f low) ∙ counts_more fs i c.loop-i-test.true,
       subst (AreCounts c.is_next.new.counts.items) (sym (take_more fs i 0 c.loop-i-test.true)) (c.is_next.ensures.counted c.if-not-is_next.false (take i fs) c.loop-i.invariant.1),
       c.is_next.ensures.kept ∙ c.loop-i.invariant.2,
     )
@@ -29,5 +29,5 @@ returns-then-not-is_next-clause-told c =
     let low : f < length c.loop-i.counts.items = omega (arith, field_low (length c.args.counts.now.items) fs i c.loop-i-test.true c.requires.fields, c.loop-i.invariant.2) in (
       λ t. absurd (false≢true t),
       λ h. sym c.if-not-is_next.true
-      ∙ c.is_next.ensures.told.1 (sym (nat_get os i) ∙ ap (λ xs. get_or xs i 0) h ∙ counts_at fs i c.loop-i-test.true ∙ sym (c.loop-i.invariant.1 f low)),
+      ∙ c.is_next.ensures.told.1 (c.offset_at.ensures.same ∙ ap (λ xs. get_or xs i 0) h ∙ counts_at fs i c.loop-i-test.true ∙ sym (c.loop-i.invariant.1 f low)),
     )
