@@ -1,7 +1,7 @@
 -- The children of an array by their position.
-use Rattle.std.proofs.Common.{◌≡◌, ℕ, zero, suc, ◌+◌, ◌<◌, List, [], ◌∷◌, length, get_or, refl, ap, sym, ◌∙◌, subst, arith}
+use Rattle.std.proofs.Common.{◌≡◌, ℕ, zero, suc, ◌<◌, List, [], ◌∷◌, length, get_or, ap, sym, ◌∙◌, subst, arith}
 use Rattle.std.specs.Prelude.{IfOk, Result, Ok, Err}
-use Rattle.arrow_layout.specs.Layouts.{Layout, child, layouts, length_of}
+use Rattle.arrow_layout.specs.Layouts.{Layout, layouts, length_of}
 use Rattle.arrow_layout.specs.WellFormed.{AreWellFormed}
 
 pub ok_then : {A E : Type 0} (r : Result A E) (P Q : A → Type 0) → ((a : A) → P a → Q a) → IfOk r P → IfOk r Q

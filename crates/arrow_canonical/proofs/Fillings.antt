@@ -1,7 +1,7 @@
 -- Fillings in the children of arrays.
-use Rattle.std.proofs.Common.{◌≡◌, ◌↔◌, ℕ, zero, suc, ◌+◌, ◌*◌, ◌<◌, ◌≤◌, Bool, true, false, List, [], ◌∷◌, length, map, get_or, take, drop, replicate, Option, Some, None, refl, ap, ap₂, sym, ◌∙◌, subst, arith}
+use Rattle.std.proofs.Common.{◌≡◌, ◌↔◌, ℕ, zero, suc, ◌+◌, ◌*◌, ◌<◌, ◌≤◌, false, List, [], ◌∷◌, length, get_or, take, drop, replicate, Option, refl, ap, ap₂, sym, ◌∙◌, subst, arith}
 use Rattle.std.specs.Prelude.{nat_eq, ⊤}
-use Rattle.std.proofs.lemmas.List.{get_or-replicate, length-replicate, length-drop, get_or-drop, drop-drop}
+use Rattle.std.proofs.lemmas.List.{get_or-replicate, length-drop, get_or-drop, drop-drop}
 use Rattle.std.proofs.Math.Nat.{mul-le-mul_right}
 use Rattle.arrow_types.specs.TypeData.{TypeData, FieldList, no_fields, and_field}
 use Rattle.arrow_types.specs.TypeData as T
@@ -11,8 +11,8 @@ use Rattle.arrow_flat.specs.Primitives.{MaskHasLength, valid_at}
 use Rattle.arrow_flat.specs.Slots.{Slot, null, Slots, no_slots, slot}
 use Rattle.arrow_layout.specs.Canonical.{AllUnset, FillElsewhere}
 use Rattle.arrow_layout.specs.Denote.{denote, rows, with_column}
-use Rattle.arrow_layout.specs.Forms.{Form, form_of, nulls_of}
-use Rattle.arrow_layout.specs.Layouts.{Layout, nulls, booleans, primitives, binaries, fixed_size_binaries, views, lists, fixed_size_lists, structs, sparse_unions, dense_unions, dictionaries, Layouts, no_layouts, child, layouts, length_of, type_of}
+use Rattle.arrow_layout.specs.Forms.{form_of, nulls_of}
+use Rattle.arrow_layout.specs.Layouts.{Layout, nulls, booleans, primitives, binaries, fixed_size_binaries, views, lists, fixed_size_lists, structs, sparse_unions, dense_unions, dictionaries, layouts, length_of, type_of}
 use Rattle.arrow_layout.specs.NullLayout.{null_layout}
 use Rattle.arrow_layout.specs.SlotsOf.{fill, fills}
 use Rattle.arrow_layout.specs.WellFormed.{AreWellFormed, HaveTypes, WellFormed, mask_bits}
@@ -20,7 +20,7 @@ use Rattle.arrow_layout.proofs.Lengths.{length-denote, length-rows}
 use Rattle.arrow_layout.proofs.NullLayouts.{denote-null, length-null}
 use Rattle.arrow_equal.specs.SlotAt.{slot_at}
 use Rattle.arrow_equal.specs.SlotParts.{IsNullArray}
-use Rattle.arrow_canonical.specs.Filled.{AllFilled, AreFilled, IsFilledAt, NullsAreFilled, OthersAreFilled}
+use Rattle.arrow_canonical.specs.Filled.{AllFilled, IsFilledAt, NullsAreFilled, OthersAreFilled}
 use Rattle.arrow_canonical.proofs.Nulls.{length-chunks, masked_each}
 
 -- ---- places
@@ -144,8 +144,8 @@ row_filled (and_field (T.field a u b m) fs) n (l ∷ ls) i t w h =
     let at = column_get (denote l) (rows n (layouts ls)) i (omega (arith, long, h)) (omega (arith, many, h)) in (
       λ p. at ∙ ap₂ slot (p.0 ∙ ap fill (sym t.0)) (more.0 p.1),
       λ e. let both : slot (get_or (denote l) i null) (get_or (rows n (layouts ls)) i no_slots) ≡ slot (fill u) (fills fs) = sym at ∙ e in
-      let first : get_or (denote l) i null ≡ fill u = cc in
-      let rest : get_or (rows n (layouts ls)) i no_slots ≡ fills fs = cc in (first ∙ ap fill t.0, more.1 rest),
+          let first : get_or (denote l) i null ≡ fill u = cc in
+          let rest : get_or (rows n (layouts ls)) i no_slots ≡ fills fs = cc in (first ∙ ap fill t.0, more.1 rest),
     )
 
 all_at : (m : Option Bits) (n i : ℕ) (ls : List Layout) → AllFilled m n ls → i < n → valid_at m i ≡ false → AllAt i ls

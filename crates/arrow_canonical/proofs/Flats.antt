@@ -1,12 +1,12 @@
 -- Offsets that don't rise over nulls, position by position.
-use Rattle.std.proofs.Common.{◌≡◌, ◌↔◌, ℕ, zero, suc, ◌+◌, ◌<◌, Bool, true, false, IsTrue, List, [], ◌∷◌, length, map, get_or, slice_get, Option, Some, None, refl, ap, sym, ◌∙◌, subst, arith}
+use Rattle.std.proofs.Common.{◌≡◌, ◌↔◌, ℕ, zero, suc, ◌+◌, ◌<◌, Bool, true, false, IsTrue, List, [], ◌∷◌, length, map, get_or, slice_get, Option, Some, refl, ap, sym, ◌∙◌, subst, arith}
 use Rattle.std.specs.Prelude.{ℤ, pos, negsuc, pred, nat_eq}
 use Rattle.std.proofs.lemmas.Bool.{eq-eqb, eqb-true, false≢true}
 use Rattle.std.proofs.lemmas.List.{length-map}
 use Rattle.arrow_types.specs.Select.{nat_of}
 use Rattle.arrow_buffers.specs.Bits.{Bits}
 use Rattle.arrow_buffers.specs.Offsets.{end_from, end_of, first_of, to_nat}
-use Rattle.arrow_flat.specs.Primitives.{MaskHasLength, valid_at}
+use Rattle.arrow_flat.specs.Primitives.{MaskHasLength}
 use Rattle.arrow_layout.specs.Canonical.{FlatFrom, IsFlat}
 use Rattle.arrow_layout.specs.WellFormed.{mask_bits}
 use Rattle.arrow_canonical.specs.OwnForm.{IsEmptyAt, NullsAreEmpty}

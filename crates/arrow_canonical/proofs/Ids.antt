@@ -1,10 +1,9 @@
 -- The ids of types, and the fields that type numbers select by them.
-use Rattle.std.proofs.Common.{◌≡◌, ℕ, zero, suc, ◌+◌, ◌<◌, List, [], ◌∷◌, ◌++◌, length, map, take, get_or, Option, Some, None, refl, ap, sym, subst, ◌∙◌, arith}
-use Rattle.std.specs.Prelude.{ℤ, pos, negsuc, ⊤}
-use Rattle.std.specs.List.{AllByRecursion, range_with_len}
+use Rattle.std.proofs.Common.{◌≡◌, ℕ, zero, suc, ◌+◌, ◌<◌, List, [], ◌∷◌, ◌++◌, length, map, take, get_or, None, refl, ap, sym, subst, ◌∙◌, arith}
+use Rattle.std.specs.Prelude.{ℤ, pos, ⊤}
+use Rattle.std.specs.List.{range_with_len}
 use Rattle.std.proofs.lemmas.List.{map-append, take_more}
-use Rattle.arrow_types.specs.Carried.{AreIds, IsBelow, IsCarried, count_fields}
-use Rattle.arrow_types.specs.Select.{first_number, nat_of}
+use Rattle.arrow_types.specs.Select.{nat_of}
 use Rattle.arrow_types.specs.TypeData.{TypeData}
 use Rattle.arrow_types.specs.TypeData as T
 use Rattle.arrow_types.specs.Seen.{back, back_fields, seen}
@@ -13,8 +12,7 @@ use Rattle.arrow_types.specs.declared.datatype.ArrowDataType.{ArrowDataType}
 use Rattle.arrow_types.specs.declared.datatype.ArrowDataType as A
 use Rattle.arrow_types.specs.declared.datatype.UnionType.{UnionType, roll-UnionType}
 use Rattle.arrow_types.proofs.Back.{back-seen}
-use Rattle.arrow_flat.proofs.Lists.{map-map, map-same}
-use Rattle.arrow_layout.specs.Forms.{fields_by, form_of, ids_by}
+use Rattle.arrow_layout.specs.Forms.{form_of, ids_by}
 use Rattle.arrow_meaning.proofs.NullArrays.{form-logical}
 
 -- ---- types that are no unions have none

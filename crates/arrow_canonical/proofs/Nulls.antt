@@ -1,7 +1,6 @@
 -- What holds at each null, position by position.
-use Rattle.std.proofs.Common.{◌≡◌, ◌↔◌, ℕ, zero, suc, ◌+◌, ◌<◌, Bool, true, false, IsTrue, List, [], ◌∷◌, length, map, get_or, drop, replicate, Option, Some, None, refl, ap, sym, ◌∙◌, subst, arith}
+use Rattle.std.proofs.Common.{◌≡◌, ◌↔◌, ℕ, zero, suc, ◌+◌, ◌<◌, Bool, true, false, IsTrue, List, [], ◌∷◌, length, get_or, drop, replicate, Option, Some, None, refl, sym, ◌∙◌, subst, arith}
 use Rattle.std.specs.Prelude.{nat_eq, nat_lt, ◌≢◌}
-use Rattle.std.specs.List.{list_all}
 use Rattle.std.proofs.lemmas.Bool.{eqb-false, eqb-true, false≢true, lt-ltb, ltb-true, true≢false}
 use Rattle.std.proofs.lemmas.List.{get_or-replicate, length-replicate}
 use Rattle.arrow_buffers.specs.Bits.{Bits, count_unset}
@@ -12,7 +11,7 @@ use Rattle.arrow_flat.specs.Primitives.{HasBit, MaskHasLength, valid_at}
 use Rattle.arrow_flat.specs.Views.{zero_view}
 use Rattle.arrow_layout.specs.Canonical.{AllUnset, MaskIsNeeded}
 use Rattle.arrow_layout.specs.Forms.{form_of, primitive_by}
-use Rattle.arrow_layout.specs.Layouts.{Layout, nulls, booleans, primitives, binaries, fixed_size_binaries, views, lists, fixed_size_lists, structs, sparse_unions, dense_unions, dictionaries, length_of}
+use Rattle.arrow_layout.specs.Layouts.{Layout, booleans, primitives, fixed_size_binaries, views, length_of}
 use Rattle.arrow_layout.specs.Masks.{valid_in}
 use Rattle.arrow_layout.specs.WellFormed.{MaskFits, WellFormed, mask_bits}
 use Rattle.arrow_canonical.specs.OwnForm.{IsZeroAt, NullsAreZero}

@@ -3,10 +3,8 @@ use Rattle.std.proofs.Common.{◌≡◌, ℕ, zero, suc, ◌+◌, ◌<◌, Bool,
 use Rattle.std.proofs.lemmas.Bool.{eqb-true, eqb-false, eq-eqb}
 use Rattle.std.proofs.lemmas.List.{map-append, take_more}
 use Rattle.std.specs.List.{AllByRecursion}
-use Rattle.arrow_types.specs.Carried.{IsBelow}
 use Rattle.arrow_types.specs.Select.{nat_of}
 use Rattle.arrow_layout.specs.Canon.{occurrences, counts_after}
-use Rattle.arrow_flat.proofs.Lists.{all_join}
 use Rattle.arrow_canonical.specs.Counted.{AreCounts}
 
 count_by : (j : ℕ) (xs : List ℕ) (k : ℕ) (b : Bool) (n : ℕ) → cond b (suc (occurrences j xs + n)) (occurrences j xs + n) ≡ cond b (suc (occurrences j xs)) (occurrences j xs) + n
@@ -57,7 +55,6 @@ counts_by cs f v before h low e k within false q =
 
 pub counts_set : (cs : List ℕ) (f v : ℕ) (before : List ℕ) → AreCounts cs before → f < length cs → v ≡ get_or cs f 0 + 1 → AreCounts (set cs f v) (before ++ f ∷ [])
 counts_set cs f v before h low e k within = counts_by cs f v before h low e k (omega (arith, within, length-set cs f v)) (nat_eq f k) refl
-
 
 pub counts_more : (xs : List ℕ) (i : ℕ) → i < length xs → counts_after [] (take i xs) ++ occurrences (get_or xs i 0) (take i xs) ∷ [] ≡ counts_after [] (take (i + 1) xs)
 counts_more xs i h = sym (counts_then [] (take i xs) (get_or xs i 0)) ∙ ap (counts_after []) (sym (take_more xs i 0 h))

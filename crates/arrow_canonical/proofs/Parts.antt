@@ -1,6 +1,6 @@
 -- What is canonical, by a layout's mask, its children and its own form.
-use Rattle.std.proofs.Common.{◌≡◌, ◌↔◌, ℕ, zero, suc, ◌+◌, ◌*◌, ◌^◌, ◌<◌, ◌≤◌, Bool, IsTrue, List, [], ◌∷◌, length, map, get_or, Option, Some, None, refl, ap, sym, ◌∙◌, subst, arith}
-use Rattle.std.specs.Prelude.{ℤ, pred, IfSome}
+use Rattle.std.proofs.Common.{◌≡◌, ◌↔◌, ℕ, zero, suc, ◌+◌, ◌^◌, ◌<◌, Bool, IsTrue, List, [], ◌∷◌, length, map, get_or, Option, Some, None, refl, ap, sym, ◌∙◌, subst, arith}
+use Rattle.std.specs.Prelude.{ℤ, IfSome}
 use Rattle.std.specs.List.{AllByRecursion}
 use Rattle.std.proofs.lemmas.List.{length-map}
 use Rattle.arrow_types.specs.Carried.{IsBelow}
@@ -10,12 +10,11 @@ use Rattle.arrow_types.specs.TypeData.{TypeData}
 use Rattle.arrow_types.specs.Types.{physical_of}
 use Rattle.arrow_types.specs.declared.datatype.ArrowDataType.{ArrowDataType}
 use Rattle.arrow_types.specs.declared.datatype.PhysicalType.TheVariants as physical
-use Rattle.arrow_types.specs.declared.datatype.UnionMode.TheVariants.{Dense, Sparse}
 use Rattle.arrow_buffers.specs.Bits.{Bits}
 use Rattle.arrow_layout.specs.Canon.{counts_after, occurrences}
 use Rattle.arrow_layout.specs.Canonical.{AreCanonical, AreCounted, AreSelected, Canonical, FillElsewhere, MaskIsNeeded}
 use Rattle.arrow_layout.specs.Denote.{denote, validity_of}
-use Rattle.arrow_layout.specs.Forms.{fields_by, form_of, ids_by}
+use Rattle.arrow_layout.specs.Forms.{fields_by, form_of}
 use Rattle.arrow_layout.specs.Layouts.{Layout, nulls, booleans, primitives, binaries, fixed_size_binaries, views, lists, fixed_size_lists, structs, sparse_unions, dense_unions, dictionaries, Layouts, no_layouts, child, layouts, length_of, lengths_of, type_of}
 use Rattle.arrow_layout.specs.Paths.{children_of}
 use Rattle.arrow_layout.specs.SlotsOf.{fill}

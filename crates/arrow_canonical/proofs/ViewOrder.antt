@@ -1,7 +1,7 @@
 -- Views that are zeros, and long views in the order of their buffers.
-use Rattle.std.proofs.Common.{◌≡◌, ◌↔◌, ℕ, zero, suc, ◌+◌, ◌-◌, ◌^◌, ◌<◌, ◌≤◌, Bool, true, false, IsTrue, cond, List, [], ◌∷◌, length, get_or, drop, replicate, nat_eq, nat_le, refl, ap, ap₂, sym, ◌∙◌, subst, arith}
+use Rattle.std.proofs.Common.{◌≡◌, ◌↔◌, ℕ, zero, suc, ◌+◌, ◌-◌, ◌^◌, ◌<◌, ◌≤◌, true, false, List, [], ◌∷◌, drop, replicate, nat_le, refl, ap, ap₂, sym, ◌∙◌, subst, arith}
 use Rattle.std.proofs.lemmas.Bool.{le-leb, true≢false}
-use Rattle.arrow_flat.specs.Packs.{AreInOrder, FollowFrom, place, spot, view_limit}
+use Rattle.arrow_flat.specs.Packs.{FollowFrom, place, spot, view_limit}
 use Rattle.arrow_flat.specs.Views.{IsView, View, inline, long, view_length, zero_view}
 use Rattle.arrow_views.specs.ViewParts.{buffer_of, offset_of}
 use Rattle.arrow_canonical.specs.OwnForm.{EndsAt, Follows, RestInOrder}
@@ -44,8 +44,7 @@ pub rest_next : (B : List (List ℕ)) (b e : ℕ) (v : View) (vs : List View) �
     → RestInOrder B b e (v ∷ vs) ↔ (Follows B b e v × RestInOrder B (buffer_of v) (offset_of v + view_length v) vs)
 rest_next B b e (inline n bs) vs w h start = absurd (omega (arith, h, w.0))
 rest_next B b (suc e) (long n p c o) vs w h start =
-    let more = rest_long B c (o + n) vs (omega (arith, h)) in
-    (
+    let more = rest_long B c (o + n) vs (omega (arith, h)) in (
       λ f. (((ap (λ q. q.0) f.0, ap (λ q. q.1) f.0), f.1), more.1 f.2),
       λ f. (same_pair c o (place view_limit b (suc e) n) f.0.0.0 f.0.0.1, f.0.1, more.0 f.1),
     )
@@ -61,6 +60,6 @@ rest_next B b zero (long n p c o) vs w h start =
         more.1 (subst (λ k. FollowFrom view_limit B c k vs) (let q : n ≡ o + n = omega (arith, f.1) in q) (subst (λ k. FollowFrom view_limit B k n vs) (sym f.0) f.2)),
       ),
       λ f. let first : c ≡ 0 = f.0.0.0 ∙ ap (λ q. q.0) at in
-      let second : o ≡ 0 = f.0.0.1 ∙ ap (λ q. q.1) at in
-      (first, second, subst (λ k. FollowFrom view_limit B k n vs) first (subst (λ k. FollowFrom view_limit B c k vs) (let q : o + n ≡ n = omega (arith, second) in q) (more.0 f.1))),
+          let second : o ≡ 0 = f.0.0.1 ∙ ap (λ q. q.1) at in
+          (first, second, subst (λ k. FollowFrom view_limit B k n vs) first (subst (λ k. FollowFrom view_limit B c k vs) (let q : o + n ≡ n = omega (arith, second) in q) (more.0 f.1))),
     )

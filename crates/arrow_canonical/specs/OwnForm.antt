@@ -1,5 +1,5 @@
 -- What the canonical form asks of an array beside its mask and the form of its children.
-use Rattle.std.specs.Prelude.{◌≡◌, ℕ, zero, suc, pred, ◌+◌, ◌<◌, Bool, true, false, List, [], map, length, get_or, nat_le, replicate, pos, Option, ⊤}
+use Rattle.std.specs.Prelude.{◌≡◌, ℕ, zero, suc, pred, ◌+◌, ◌<◌, true, false, List, [], map, length, get_or, nat_le, replicate, pos, Option, ⊤}
 use Rattle.std.specs.List.{list_all}
 use Rattle.arrow_types.specs.Select.{nat_of}
 use Rattle.arrow_buffers.specs.Bits.{Bits}

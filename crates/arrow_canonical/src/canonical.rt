@@ -162,12 +162,7 @@ fn union_form(
 }
 
 /// Whether a sparse union has no shift, and fillings where another field is selected.
-fn sparse_form(
-    alloc: Global,
-    fields: &[usize],
-    children: &[ArrayRef],
-    shift: usize,
-) -> Mem<bool>
+fn sparse_form(alloc: Global, fields: &[usize], children: &[ArrayRef], shift: usize) -> Mem<bool>
     requires { AreCanonical (layouts children.now) }
     ensures { let ls = layouts children.now in
         IfOk result (λ b. IsTrue b ↔ ((shift ≡ 0) × AreSelected 0 fields.now ls)) }

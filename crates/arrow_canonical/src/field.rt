@@ -14,7 +14,11 @@ use arrow_types::{ArrowDataType, Mem, UnionType};
 use std::alloc::Global;
 
 /// The position of the field that each type number selects.
-pub(crate) fn fields_of_types(alloc: Global, dtype: &ArrowDataType, types: &Buffer<i8>) -> Mem<Vec<usize>>
+pub(crate) fn fields_of_types(
+    alloc: Global,
+    dtype: &ArrowDataType,
+    types: &Buffer<i8>,
+) -> Mem<Vec<usize>>
     requires { physical_of (seen dtype.now) ≡ Some physical.Union }
     ensures { IfOk result (λ v. v.items ≡ positions (seen dtype.now) types.now) }
 {

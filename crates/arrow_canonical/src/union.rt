@@ -55,8 +55,8 @@ pub(crate) fn all_counted(
         × AllCounted fields.now children.now)) }
 {
     let mut counts = zeros(alloc, children.len())?;
-    let is_canonical =
-        follow_counts(&mut counts, fields, offsets) && have_lengths(children, counts.as_slice());
+    let is_canonical = follow_counts(&mut counts, fields, offsets)
+        && have_lengths(children, counts.as_slice());
     drop(counts);
     Ok(is_canonical)
 }

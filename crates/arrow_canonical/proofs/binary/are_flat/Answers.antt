@@ -1,12 +1,6 @@
-use Rattle.std.proofs.Common.{◌≡◌, ◌<◌, false, true, arith, sym, ◌∙◌, subst, map, length}
-use Rattle.std.specs.Prelude.{pred}
+use Rattle.std.proofs.Common.{arith, sym, ◌∙◌}
 use Rattle.std.specs.Option.{option_copied}
 use Rattle.std.proofs.lemmas.Bool.{false≢true}
-use Rattle.std.proofs.lemmas.List.{length-map}
-use Rattle.arrow_types.specs.Select.{nat_of}
-use Rattle.arrow_flat.specs.Primitives.{MaskHasLength}
-use Rattle.arrow_layout.specs.Canonical.{IsFlat}
-use Rattle.arrow_layout.specs.WellFormed.{mask_bits}
 use Rattle.arrow_canonical.proofs.Flats.{flat_of}
 use Rattle.arrow_canonical.proofs.binary.are_flat.Goals as goal
 

@@ -1,4 +1,4 @@
-use Rattle.std.proofs.Common.{◌≡◌, ◌<◌, false, arith, refl, sym, ◌∙◌, map, length}
+use Rattle.std.proofs.Common.{◌≡◌, false, arith, refl, sym, ◌∙◌, map}
 use Rattle.std.specs.Option.{option_copied}
 use Rattle.std.proofs.lemmas.Bool.{false≢true}
 use Rattle.std.proofs.lemmas.List.{length-map}

@@ -1,7 +1,6 @@
 use Rattle.std.proofs.Common.{◌≡◌, ◌↔◌, ◌<◌, ◌^◌, IsTrue, Some, [], length, map, ap, sym, subst, ◌∙◌}
 use Rattle.std.specs.List.{AllByRecursion}
 use Rattle.arrow_types.specs.Carried.{IsBelow}
-use Rattle.arrow_types.specs.Seen.{seen}
 use Rattle.arrow_types.specs.Select.{nat_of}
 use Rattle.arrow_layout.specs.Canon.{counts_after}
 use Rattle.arrow_layout.specs.Canonical.{AreSelected}

@@ -1,4 +1,4 @@
-use Rattle.std.proofs.Common.{◌<◌, arith, refl}
+use Rattle.std.proofs.Common.{arith, refl}
 use Rattle.arrow_canonical.proofs.Fillings.{null_filled}
 use Rattle.arrow_canonical.proofs.fill.others_are_filled.Goals as goal
 

@@ -1,4 +1,4 @@
-use Rattle.std.proofs.Common.{◌+◌, ◌*◌, ◌<◌, length, arith, refl, subst, sym}
+use Rattle.std.proofs.Common.{◌+◌, ◌*◌, length, refl}
 use Rattle.arrow_canonical.proofs.Fillings.{chunk_place, null_filled}
 use Rattle.arrow_canonical.proofs.fill.unset_are_filled.Goals as goal
 

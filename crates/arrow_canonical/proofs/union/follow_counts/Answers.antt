@@ -1,8 +1,6 @@
-use Rattle.std.proofs.Common.{◌≡◌, ◌<◌, ◌++◌, ◌∷◌, [], map, pos, take, length, get_or, sym, ap, ap₂, ◌∙◌, subst, arith}
+use Rattle.std.proofs.Common.{◌<◌, ◌++◌, ◌∷◌, [], take, length, get_or, sym, ap, ap₂, ◌∙◌, subst, arith}
 use Rattle.std.proofs.lemmas.Bool.{false≢true}
 use Rattle.std.proofs.lemmas.List.{take_more}
-use Rattle.arrow_types.specs.Select.{nat_of}
-use Rattle.arrow_layout.specs.Canon.{counts_after}
 use Rattle.arrow_canonical.specs.Counted.{AreCounts}
 use Rattle.arrow_canonical.proofs.Occurrences.{counts_at, counts_more, field_low, nat_get, nat_more}
 use Rattle.arrow_canonical.proofs.union.follow_counts.Goals as goal
@@ -29,5 +27,5 @@ returns-then-not-is_next-clause-told c =
     let low : f < length c.loop-i.counts.items = omega (arith, field_low (length c.args.counts.now.items) fs i c.loop-i-test.true c.requires.fields, c.loop-i.invariant.2) in (
       λ t. absurd (false≢true t),
       λ h. sym c.if-not-is_next.true
-      ∙ c.is_next.ensures.told.1 (c.offset_at.ensures.same ∙ ap (λ xs. get_or xs i 0) h ∙ counts_at fs i c.loop-i-test.true ∙ sym (c.loop-i.invariant.1 f low)),
+          ∙ c.is_next.ensures.told.1 (c.offset_at.ensures.same ∙ ap (λ xs. get_or xs i 0) h ∙ counts_at fs i c.loop-i-test.true ∙ sym (c.loop-i.invariant.1 f low)),
     )

@@ -1,5 +1,4 @@
-use Rattle.std.proofs.Common.{◌≡◌, arith, refl, map, sym, ◌∙◌}
-use Rattle.arrow_canonical.proofs.ViewOrder.{rest_none}
+use Rattle.std.proofs.Common.{arith, refl}
 use Rattle.arrow_canonical.proofs.view.are_in_order.Goals as goal
 
 pub loop-i-init : goal.loop-i-init
