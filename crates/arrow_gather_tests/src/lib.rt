@@ -4,5 +4,6 @@
 
 mod dictionaries;
 mod fixtures;
+mod forms;
 mod rows;
 mod sizes;

@@ -2,11 +2,11 @@
 use crate::fixtures::{
     booleans, dictionaries, fixed_size_lists, large_lists, numbers, structs, unions,
 };
-use arrow_gather::normalized;
+use arrow_gather::{is_canonical, normalized};
 use arrow_meaning::{ArrayRef, TypedArray};
 use arrow_nested::NullArray;
 use arrow_scalar::same_layout;
-use arrow_types::ArrowDataType;
+use arrow_types::{ArrowDataType, Mem};
 use std::alloc::Global;
 use std::test::Fail;
 
@@ -207,12 +207,17 @@ fn comes_out(alloc: Global, array: ArrayRef, wanted: &ArrayRef) -> Result<bool, 
     Ok(is_right)
 }
 
-/// Whether a row comes out, and its canonical array as itself.
+/// Whether an array is said to be canonical exactly where it is the canonical array.
+fn is_told(alloc: Global, array: &ArrayRef, wanted: &ArrayRef) -> Mem<bool> {
+    Ok(is_canonical(alloc, array)? == same_layout(array, wanted))
+}
+
+/// Whether a row comes out, and its canonical array as itself, which alone is canonical.
 fn row_holds(alloc: Global, row: Row) -> Result<bool, Fail> {
     let wanted = array_of(alloc, row, true)?;
-    for is_canonical in [false, true] {
-        let array = array_of(alloc, row, is_canonical)?;
-        if !comes_out(alloc, array, &wanted)? {
+    for has_form in [false, true] {
+        let array = array_of(alloc, row, has_form)?;
+        if !is_told(alloc, &array, &wanted)? || !comes_out(alloc, array, &wanted)? {
             return Ok(false);
         }
     }

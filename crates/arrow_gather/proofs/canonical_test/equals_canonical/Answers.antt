@@ -1,6 +1,6 @@
 use Rattle.std.proofs.Common.{sym, ◌∙◌}
 use Rattle.arrow_layout.proofs.Unique.{canonical-is_canon}
-use Rattle.arrow_gather.proofs.canonical_test.is_canonical.Goals as goal
+use Rattle.arrow_gather.proofs.canonical_test.equals_canonical.Goals as goal
 
 pub returns-in-Ok : goal.returns-in-Ok
 returns-in-Ok c =

@@ -1,0 +1,9 @@
+pub mod Children
+pub mod Fillings
+pub mod Flats
+pub mod Ids
+pub mod Nulls
+pub mod Occurrences
+pub mod Parts
+pub mod Sized
+pub mod ViewOrder
