@@ -161,7 +161,8 @@ fn is_one(alloc: Global, array: ArrayRef) -> Result<bool, Fail> {
 fn one_flaw_is_enough(rt: HostRuntime) -> Result<(), Fail> {
     let alloc = rt.alloc();
     for flaw in FLAWS {
-        let is_right = !is_one(alloc, flawed(alloc, flaw)?)? && is_one(alloc, flawless(alloc, flaw)?)?;
+        let is_right = !is_one(alloc, flawed(alloc, flaw)?)?
+            && is_one(alloc, flawless(alloc, flaw)?)?;
         assert!(rt; is_right);
     }
     Ok(())

@@ -1,0 +1,14 @@
+pub mod Boxed
+pub mod ColumnSlots
+pub mod EmptyRooms
+pub mod Ends
+pub mod FlatRuns
+pub mod NestedBoxes
+pub mod NestedSteps
+pub mod NodeParts
+pub mod Offered
+pub mod PartLayouts
+pub mod PickedColumns
+pub mod Positions
+pub mod Siblings
+pub mod TakenParts
