@@ -30,7 +30,7 @@ use std::slice;
 /// Children are tested first. Refused for want of memory alone: for the fields that the slots of
 /// unions select, and for one filling of each child of a struct, a fixed-size list or a sparse union
 /// that is needed.
-#[cycle(test)]
+#[cycle(whole)]
 pub fn test_canonical(alloc: Global, array: &ArrayRef) -> Mem<Option<bool>>
     ensures { IfOk result (λ o. IfSome o (λ b. IsTrue b ↔ Canonical array.now)) }
 {
@@ -50,7 +50,7 @@ pub fn test_canonical(alloc: Global, array: &ArrayRef) -> Mem<Option<bool>>
 }
 
 /// Whether each of the arrays is canonical, None as above.
-#[cycle(test)]
+#[cycle(whole)]
 fn test_children(alloc: Global, children: &[ArrayRef]) -> Mem<Option<bool>>
     ensures { IfOk result (λ o. IfSome o (λ b. IsTrue b ↔ AreCanonical (layouts children.now))) }
 {

@@ -5,7 +5,7 @@ use Rattle.arrow_layout.specs.Layouts.{layouts}
 use Rattle.arrow_layout.specs.Paths.{children_of}
 use Rattle.arrow_scalar.proofs.Slots.{count_at}
 use Rattle.arrow_canonical.proofs.Parts.{all_canonical, answered, canonical_at, parts_of}
-use Rattle.arrow_canonical.proofs.canonical.+test.Goals as goal
+use Rattle.arrow_canonical.proofs.canonical.+whole.Goals as goal
 
 pub test_canonical-returns-then-not-are_canonical : goal.test_canonical-returns-then-not-are_canonical
 test_canonical-returns-then-not-are_canonical t c =

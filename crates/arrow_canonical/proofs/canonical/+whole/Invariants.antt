@@ -2,7 +2,7 @@ use Rattle.std.proofs.Common.{◌≡◌, ℕ, ◌<◌, ◌+◌, ◌*◌, get_or}
 use Rattle.arrow_layout.specs.Canonical.{Canonical}
 use Rattle.arrow_layout.specs.Layouts.{Layout, layouts}
 use Rattle.arrow_layout.specs.NodeCount.{node_count, node_counts}
-use Rattle.arrow_canonical.proofs.canonical.+test.Given as goal
+use Rattle.arrow_canonical.proofs.canonical.+whole.Given as goal
 
 abbrev pub invariant-test_children-loop-k : goal.invariant-test_children-loop-k
 invariant-test_children-loop-k l = (k : ℕ) → k < l.k → (c : Layout) → c ≡ get_or l.children k c → Canonical c
